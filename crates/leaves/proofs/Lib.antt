@@ -1,0 +1,26 @@
+-- Laws about the definitions of `leaves`, by subject. What two functions' proofs need, and what the layers above cite, stands here.
+
+-- values of a format, their order, their signs
+pub mod Values
+pub mod Order
+pub mod Signs
+-- smaller-of and larger-of; folds in any order
+pub mod Choices
+pub mod Folds
+-- the root: whole numbers first, then the rounding, then the theorems
+pub mod Squares
+pub mod WholeRoots
+pub mod DigitSteps
+pub mod Packing
+pub mod Rounding
+pub mod PackedRoots
+pub mod RootCases
+pub mod Closest
+pub mod Roots
+pub mod RootOrder
+-- round, hypotenuses and keys, the turn, constants, worked examples
+pub mod Wholes
+pub mod Hypotenuses
+pub mod Turns
+pub mod ConstantBits
+pub mod Examples

@@ -1,0 +1,311 @@
+-- The order of the values that a format holds, of either sign. `place` numbers them in order, from one infinity to the other, with one number for both zeros:
+-- so `lt` and `le` are transitive, and of two values that are no NaN either one is less or the other is less or equal.
+-- Two values that are neither a NaN nor -0, and neither of which is less than the other, are the same.
+use mathlib.Core.Path.{_≡_, refl, sym, ap, ap₂, _∙_, subst}
+use mathlib.Core.Logic.{_≢_, inl, inr}
+use mathlib.Core.Bool.{Bool, true, false, not, _&&_, _||_}
+use Prim.Native.Nat.{ℕ, zero, suc, _+_, _-_, _*_, _^_, _≤_, _<_, zero-le}
+use native.Mathlib.Nat.{add-comm, add-mul, eq-zero-or-pos, le-antisymm, le-of-lt, le-refl, lt-of-mul-lt-mul-right, mul-lt-mul-of-pos-right, mul-pos, zero-mul}
+use native.Mathlib.Omega.{arith}
+use lib.IntN.{ℤ}
+use lib.Dec.{T, T-not, not-T, ltb, eqb, eqb→eq, lt→ltb, ltb→lt, nltb→le}
+use lib.Arith.{le→nltb}
+use lib.Pow.{pow-pos}
+use lib.Ieee.{Float, nan, inf, fin, Format, low, up, down, fits, isNan, lt, eq, le}
+use lib.Ieee.Fits.{and-i, and-l, and-r, down-pos, eq→eqb}
+use lib.Ieee.Scale.{overflow}
+use Rattle.leaves.proofs.Values.{same-units, units-over, units-over-swapped, units-small, units-zero, unitsIn}
+
+abbrev pub minusZero : Float → Bool
+minusZero nan = false
+minusZero (inf s) = false
+minusZero (fin false m e) = false
+minusZero (fin true zero e) = true
+minusZero (fin true (suc m) e) = false
+
+-- where a value stands among those that the format holds: -infinity at 0, the zeros in the middle, infinity at the end
+abbrev pub place : Format → Float → ℕ
+place f nan = 0
+place f (inf true) = 0
+place f (inf false) = overflow f + overflow f
+place f (fin true m e) = overflow f - unitsIn f (fin true m e)
+place f (fin false m e) = overflow f + unitsIn f (fin false m e)
+
+-- ---- tests
+
+same-test : (a b : Bool) → (T a → T b) → (T b → T a) → a ≡ b
+same-test true true p q = refl
+same-test true false p q = absurd (p tt)
+same-test false true p q = absurd (q tt)
+same-test false false p q = refl
+
+or-l : (a b : Bool) → T a → T (a || b)
+or-l true b t = tt
+or-l false b t = absurd t
+
+same-lt : (a b p q : ℕ) → (a < b → p < q) → (p < q → a < b) → ltb a b ≡ ltb p q
+same-lt a b p q h k = same-test (ltb a b) (ltb p q) (λ t. lt→ltb p q (h (ltb→lt a b t))) (λ t. lt→ltb a b (k (ltb→lt p q t)))
+
+under : (p q : ℕ) → p < q → true ≡ ltb p q
+under p q h = same-test true (ltb p q) (λ t. lt→ltb p q h) (λ t. tt)
+
+over : (p q : ℕ) → q ≤ p → false ≡ ltb p q
+over p q h = same-test false (ltb p q) (λ t. absurd t) (λ t. clash (ltb→lt p q t))
+  where
+    clash : p < q → ⊥
+    clash k = omega arith
+
+-- ---- `lt` by the places
+
+-- a / l and b / l are u / c and v / c
+ratio : (a b u v l c : ℕ) → 0 < l → 0 < c → a * l ≡ u * c → b * l ≡ v * c → ltb a b ≡ ltb u v
+ratio a b u v l c L C p q =
+    same-lt a b u v
+    (λ h. lt-of-mul-lt-mul-right c (subst (λ (x : ℕ). x < v * c) p (subst (λ (x : ℕ). a * l < x) q (mul-lt-mul-of-pos-right h L))))
+    (λ h. lt-of-mul-lt-mul-right l (subst (λ (x : ℕ). x < b * l) (sym p) (subst (λ (x : ℕ). u * c < x) (sym q) (mul-lt-mul-of-pos-right h C))))
+
+-- u and v units above the middle B, or below it
+up-up : (B u v : ℕ) → ltb u v ≡ ltb (B + u) (B + v)
+up-up B u v = same-lt u v (B + u) (B + v) (λ h. omega arith) (λ h. omega arith)
+
+down-down : (B u v : ℕ) → u < B → v < B → ltb v u ≡ ltb (B - u) (B - v)
+down-down B u v h₁ h₂ = same-lt v u (B - u) (B - v) (λ h. omega arith) (λ h. omega arith)
+
+up-down : (B u v : ℕ) → B - v ≤ B + u
+up-down B u v = omega arith
+
+down-up : (B u v : ℕ) → u < B → ltb 0 (u + v) ≡ ltb (B - u) (B + v)
+down-up B u v h₁ = same-lt 0 (u + v) (B - u) (B + v) (λ h. omega arith) (λ h. omega arith)
+
+-- a finite value stands between the infinities
+after : (f : Format) (s : Bool) (m : ℕ) (e : ℤ) → T (fits f (fin s m e)) → 0 < place f (fin s m e)
+after f true m e h = go (overflow f) (unitsIn f (fin true m e)) (units-small f (fin true m e) h)
+  where
+    go : (B u : ℕ) → u < B → 0 < B - u
+    go B u k = omega arith
+after f false m e h = go (overflow f) (unitsIn f (fin false m e)) (units-small f (fin false m e) h)
+  where
+    go : (B u : ℕ) → u < B → 0 < B + u
+    go B u k = omega arith
+
+before : (f : Format) (s : Bool) (m : ℕ) (e : ℤ) → T (fits f (fin s m e)) → place f (fin s m e) < overflow f + overflow f
+before f true m e h = go (overflow f) (unitsIn f (fin true m e)) (units-small f (fin true m e) h)
+  where
+    go : (B u : ℕ) → u < B → B - u < B + B
+    go B u k = omega arith
+before f false m e h = go (overflow f) (unitsIn f (fin false m e)) (units-small f (fin false m e) h)
+  where
+    go : (B u : ℕ) → u < B → B + u < B + B
+    go B u k = omega arith
+
+twice-pos : (B : ℕ) → 0 < B → 0 < B + B
+twice-pos B h = omega arith
+
+-- a NaN is never less, and its place is the first, so y may be one
+pub lt-place : (f : Format) (x y : Float) → T (fits f x) → T (fits f y) → T (not (isNan x)) → lt x y ≡ ltb (place f x) (place f y)
+unfolding lt isNan
+lt-place f nan y h k n = absurd n
+lt-place f (inf true) nan h k n = refl
+lt-place f (inf false) nan h k n = over (overflow f + overflow f) 0 zero-le
+lt-place f (inf true) (inf true) h k n = refl
+lt-place f (inf true) (inf false) h k n = under 0 (overflow f + overflow f) (twice-pos (overflow f) (units-small f (inf true) h))
+lt-place f (inf false) (inf true) h k n = over (overflow f + overflow f) 0 zero-le
+lt-place f (inf false) (inf false) h k n = over (overflow f + overflow f) (overflow f + overflow f) (le-refl (overflow f + overflow f))
+lt-place f (inf true) (fin t m e) h k n = under 0 (place f (fin t m e)) (after f t m e k)
+lt-place f (inf false) (fin t m e) h k n = over (overflow f + overflow f) (place f (fin t m e)) (le-of-lt (before f t m e k))
+lt-place f (fin s m e) nan h k n = over (place f (fin s m e)) 0 zero-le
+lt-place f (fin s m e) (inf true) h k n = over (place f (fin s m e)) 0 zero-le
+lt-place f (fin s m e) (inf false) h k n = under (place f (fin s m e)) (overflow f + overflow f) (before f s m e h)
+lt-place f (fin false m e) (fin false n d) h k u =
+    ratio (m * up e * down d) (n * up d * down e) (unitsIn f (fin false m e)) (unitsIn f (fin false n d)) (2 ^ low f) (down e * down d) (pow-pos (low f)) (mul-pos (down-pos e) (down-pos d)) (units-over f false m e (down d) h) (units-over-swapped f false n d (down e) k)
+    ∙ up-up (overflow f) (unitsIn f (fin false m e)) (unitsIn f (fin false n d))
+lt-place f (fin false m e) (fin true n d) h k u =
+    over (overflow f + unitsIn f (fin false m e)) (overflow f - unitsIn f (fin true n d)) (up-down (overflow f) (unitsIn f (fin false m e)) (unitsIn f (fin true n d)))
+lt-place f (fin true m e) (fin false n d) h k u =
+    ratio 0 (m * up e * down d + n * up d * down e) 0 (unitsIn f (fin true m e) + unitsIn f (fin false n d)) (2 ^ low f) (down e * down d) (pow-pos (low f)) (mul-pos (down-pos e) (down-pos d)) (zero-mul (2 ^ low f) ∙ sym (zero-mul (down e * down d)))
+    (add-mul (m * up e * down d) (n * up d * down e) (2 ^ low f) ∙ ap₂ (λ (x y : ℕ). x + y) (units-over f true m e (down d) h) (units-over-swapped f false n d (down e) k) ∙ sym (add-mul (unitsIn f (fin true m e)) (unitsIn f (fin false n d)) (down e * down d)))
+    ∙ down-up (overflow f) (unitsIn f (fin true m e)) (unitsIn f (fin false n d)) (units-small f (fin true m e) h)
+lt-place f (fin true m e) (fin true n d) h k u =
+    ratio (n * up d * down e) (m * up e * down d) (unitsIn f (fin true n d)) (unitsIn f (fin true m e)) (2 ^ low f) (down e * down d) (pow-pos (low f)) (mul-pos (down-pos e) (down-pos d)) (units-over-swapped f true n d (down e) k) (units-over f true m e (down d) h)
+    ∙ down-down (overflow f) (unitsIn f (fin true m e)) (unitsIn f (fin true n d)) (units-small f (fin true m e) h) (units-small f (fin true n d) k)
+
+-- ---- `le` is not less the other way
+
+pub nan-less : (y : Float) → lt nan y ≡ false
+unfolding lt
+nan-less y = refl
+
+pub less-nan : (x : Float) → lt x nan ≡ false
+unfolding lt
+less-nan nan = refl
+less-nan (inf s) = refl
+less-nan (fin s m e) = refl
+
+neqb→ne : (a b : ℕ) → T (not (eqb a b)) → a ≢ b
+neqb→ne a b n e = T-not (eqb a b) n (eq→eqb e)
+
+-- of less, equal and greater just one holds
+just-one : (l e g : Bool) → (T l → T g → ⊥) → (T e → T g → ⊥) → (T (not l) → T (not e) → T g) → (l || (e && true)) ≡ not g
+just-one true e true p q r = absurd (p tt tt)
+just-one true e false p q r = refl
+just-one false true true p q r = absurd (q tt tt)
+just-one false true false p q r = refl
+just-one false false true p q r = refl
+just-one false false false p q r = absurd (r tt tt)
+
+positives : (a b : ℕ) → (ltb a b || (eqb a b && true)) ≡ not (ltb b a)
+positives a b = just-one (ltb a b) (eqb a b) (ltb b a) (λ t u. omega (arith, ltb→lt)) (λ t u. omega (arith, ltb→lt, eqb→eq)) (λ t u. omega (arith, nltb→le, neqb→ne, lt→ltb))
+
+negatives : (a b : ℕ) → (ltb b a || (eqb a b && true)) ≡ not (ltb a b)
+negatives a b = just-one (ltb b a) (eqb a b) (ltb a b) (λ t u. omega (arith, ltb→lt)) (λ t u. omega (arith, ltb→lt, eqb→eq)) (λ t u. omega (arith, nltb→le, neqb→ne, lt→ltb))
+
+-- of two signs both sizes are 0, or one of the two is not
+both-zero : (a b : ℕ) → (eqb a b && eqb a 0) ≡ not (ltb 0 (b + a))
+both-zero a b =
+    same-test (eqb a b && eqb a 0) (not (ltb 0 (b + a)))
+    (λ t. le→nltb 0 (b + a) (omega (arith, eqb→eq a b (and-l (eqb a b) (eqb a 0) t), eqb→eq a 0 (and-r (eqb a b) (eqb a 0) t))))
+    (λ t. and-i (eqb a b) (eqb a 0) (eq→eqb {a = a} {b = b} (omega (arith, nltb→le))) (eq→eqb {a = a} {b = 0} (omega (arith, nltb→le))))
+
+or-not : (a b : Bool) → b ≡ not a → (a || b) ≡ true
+or-not true b e = refl
+or-not false b e = e
+
+-- for values that are no NaN
+pub le-lt : (x y : Float) → T (not (isNan x)) → T (not (isNan y)) → le x y ≡ not (lt y x)
+unfolding le lt isNan
+le-lt nan y h k = absurd h
+le-lt (inf s) nan h k = absurd k
+le-lt (inf true) (inf true) h k = refl
+le-lt (inf true) (inf false) h k = refl
+le-lt (inf false) (inf true) h k = refl
+le-lt (inf false) (inf false) h k = refl
+le-lt (inf true) (fin t n d) h k = refl
+le-lt (inf false) (fin t n d) h k = refl
+le-lt (fin s m e) nan h k = absurd k
+le-lt (fin s m e) (inf true) h k = refl
+le-lt (fin s m e) (inf false) h k = refl
+le-lt (fin false m e) (fin false n d) h k = positives (m * up e * down d) (n * up d * down e)
+le-lt (fin false m e) (fin true n d) h k = both-zero (m * up e * down d) (n * up d * down e)
+le-lt (fin true m e) (fin false n d) h k =
+    let a = m * up e * down d in
+    let b = n * up d * down e in
+    or-not (ltb 0 (a + b)) (eqb a b && eqb a 0) (both-zero a b ∙ ap (λ (x : ℕ). not (ltb 0 x)) (add-comm b a))
+le-lt (fin true m e) (fin true n d) h k = negatives (m * up e * down d) (n * up d * down e)
+
+-- ---- what `lt` and `le` hold of is no NaN
+
+pub lt-left : (x y : Float) → T (lt x y) → T (not (isNan x))
+unfolding lt isNan
+lt-left nan y h = h
+lt-left (inf s) y h = tt
+lt-left (fin s m e) y h = tt
+
+pub lt-right : (x y : Float) → T (lt x y) → T (not (isNan y))
+unfolding lt isNan
+lt-right x nan h = subst T (less-nan x) h
+lt-right x (inf s) h = tt
+lt-right x (fin s m e) h = tt
+
+pub le-left : (x y : Float) → T (le x y) → T (not (isNan x))
+unfolding le isNan
+le-left nan y h = h
+le-left (inf s) y h = tt
+le-left (fin s m e) y h = tt
+
+pub le-right : (x y : Float) → T (le x y) → T (not (isNan y))
+unfolding le isNan
+le-right nan nan h = h
+le-right (inf s) nan h = h
+le-right (fin s m e) nan h = h
+le-right x (inf s) h = tt
+le-right x (fin s m e) h = tt
+
+pub not-lt→le : (x y : Float) → T (not (isNan x)) → T (not (isNan y)) → T (not (lt x y)) → T (le y x)
+not-lt→le x y h k l = subst T (sym (le-lt y x k h)) l
+
+pub le→not-lt : (x y : Float) → T (le x y) → T (not (lt y x))
+le→not-lt x y l = subst T (le-lt x y (le-left x y l) (le-right x y l)) l
+
+pub lt→le : (x y : Float) → T (lt x y) → T (le x y)
+unfolding le
+lt→le x y l = or-l (lt x y) (eq x y) l
+
+pub lt-asym : (x y : Float) → T (lt x y) → T (lt y x) → ⊥
+lt-asym x y l = T-not (lt y x) (le→not-lt x y (lt→le x y l))
+
+pub lt-irrefl : (x : Float) → T (lt x x) → ⊥
+lt-irrefl x l = lt-asym x x l l
+
+pub le-self : (x : Float) → T (not (isNan x)) → T (le x x)
+le-self x h = not-lt→le x x h h (not-T (lt x x) (lt-irrefl x))
+
+-- ---- chains, by the places
+
+module _ (f : Format) (x y : Float) (h : T (fits f x)) (k : T (fits f y)) where
+  pub lt→place : T (lt x y) → place f x < place f y
+  lt→place l = ltb→lt (place f x) (place f y) (subst T (lt-place f x y h k (lt-left x y l)) l)
+
+  pub place→lt : T (not (isNan x)) → place f x < place f y → T (lt x y)
+  place→lt n l = subst T (sym (lt-place f x y h k n)) (lt→ltb (place f x) (place f y) l)
+
+  pub le→place : T (le x y) → place f x ≤ place f y
+  le→place l = nltb→le (place f y) (place f x) (subst (λ (b : Bool). T (not b)) (lt-place f y x k h (le-right x y l)) (le→not-lt x y l))
+
+  pub place→le : T (not (isNan x)) → T (not (isNan y)) → place f x ≤ place f y → T (le x y)
+  place→le n o l = not-lt→le y x o n (subst (λ (b : Bool). T (not b)) (sym (lt-place f y x k h o)) (le→nltb (place f y) (place f x) l))
+
+module _ (f : Format) (x y z : Float) (h : T (fits f x)) (k : T (fits f y)) (j : T (fits f z)) where
+  pub lt-trans : T (lt x y) → T (lt y z) → T (lt x z)
+  lt-trans p q = place→lt f x z h j (lt-left x y p) (omega (arith, lt→place f x y h k p, lt→place f y z k j q))
+
+  pub lt-le-trans : T (lt x y) → T (le y z) → T (lt x z)
+  lt-le-trans p q = place→lt f x z h j (lt-left x y p) (omega (arith, lt→place f x y h k p, le→place f y z k j q))
+
+  pub le-lt-trans : T (le x y) → T (lt y z) → T (lt x z)
+  le-lt-trans p q = place→lt f x z h j (le-left x y p) (omega (arith, le→place f x y h k p, lt→place f y z k j q))
+
+  pub le-trans : T (le x y) → T (le y z) → T (le x z)
+  le-trans p q = place→le f x z h j (le-left x y p) (le-right y z q) (omega (arith, le→place f x y h k p, le→place f y z k j q))
+
+-- ---- one value to a place, but for the zeros
+
+apart : (p q : ℕ) → p < q → p ≡ q → ⊥
+apart p q h e = omega arith
+
+units-up : (B u v : ℕ) → B + u ≡ B + v → u ≡ v
+units-up B u v e = omega arith
+
+units-down : (B u v : ℕ) → u < B → v < B → B - u ≡ B - v → u ≡ v
+units-down B u v h k e = omega arith
+
+off-middle : (B u v : ℕ) → 0 < v → v < B → B + u ≡ B - v → ⊥
+off-middle B u v h k e = omega arith
+
+-- a negative value that is not -0 is a unit at least
+pub negative-units : (f : Format) (m : ℕ) (e : ℤ) → T (fits f (fin true m e)) → T (not (minusZero (fin true m e))) → 0 < unitsIn f (fin true m e)
+negative-units f m e h z = elim (eq-zero-or-pos (unitsIn f (fin true m e))) [ inl u ↦ absurd (subst (λ (x : Float). T (not (minusZero x))) (units-zero f true m e h u) z) | inr u ↦ u ]
+
+same-place : (f : Format) (x y : Float) → T (fits f x) → T (fits f y) → T (not (isNan x)) → T (not (isNan y)) → T (not (minusZero x)) → T (not (minusZero y)) → place f x ≡ place f y → x ≡ y
+unfolding isNan
+same-place f nan y h k n o a b q = absurd n
+same-place f (inf s) nan h k n o a b q = absurd o
+same-place f (inf true) (inf true) h k n o a b q = refl
+same-place f (inf true) (inf false) h k n o a b q = absurd (apart 0 (overflow f + overflow f) (twice-pos (overflow f) (units-small f (inf true) h)) q)
+same-place f (inf false) (inf true) h k n o a b q = absurd (apart 0 (overflow f + overflow f) (twice-pos (overflow f) (units-small f (inf false) h)) (sym q))
+same-place f (inf false) (inf false) h k n o a b q = refl
+same-place f (inf true) (fin t m e) h k n o a b q = absurd (apart 0 (place f (fin t m e)) (after f t m e k) q)
+same-place f (inf false) (fin t m e) h k n o a b q = absurd (apart (place f (fin t m e)) (overflow f + overflow f) (before f t m e k) (sym q))
+same-place f (fin s m e) nan h k n o a b q = absurd o
+same-place f (fin s m e) (inf true) h k n o a b q = absurd (apart 0 (place f (fin s m e)) (after f s m e h) (sym q))
+same-place f (fin s m e) (inf false) h k n o a b q = absurd (apart (place f (fin s m e)) (overflow f + overflow f) (before f s m e h) q)
+same-place f (fin false m e) (fin false n d) h k _ _ a b q = same-units f false false m n e d h k refl (units-up (overflow f) (unitsIn f (fin false m e)) (unitsIn f (fin false n d)) q)
+same-place f (fin false m e) (fin true n d) h k _ _ a b q =
+    absurd (off-middle (overflow f) (unitsIn f (fin false m e)) (unitsIn f (fin true n d)) (negative-units f n d k b) (units-small f (fin true n d) k) q)
+same-place f (fin true m e) (fin false n d) h k _ _ a b q =
+    absurd (off-middle (overflow f) (unitsIn f (fin false n d)) (unitsIn f (fin true m e)) (negative-units f m e h a) (units-small f (fin true m e) h) (sym q))
+same-place f (fin true m e) (fin true n d) h k _ _ a b q =
+    same-units f true true m n e d h k refl (units-down (overflow f) (unitsIn f (fin true m e)) (unitsIn f (fin true n d)) (units-small f (fin true m e) h) (units-small f (fin true n d) k) q)
+
+-- two values that are neither a NaN nor -0, neither of them less than the other
+pub same : (f : Format) (x y : Float) → T (fits f x) → T (fits f y) → T (not (isNan x)) → T (not (isNan y)) → T (not (minusZero x)) → T (not (minusZero y)) → T (not (lt x y)) → T (not (lt y x)) → x ≡ y
+same f x y h k n o a b p q = same-place f x y h k n o a b (le-antisymm (le→place f x y h k (not-lt→le y x o n q)) (le→place f y x k h (not-lt→le x y n o p)))

@@ -1,0 +1,257 @@
+-- The rounding to a whole number. A value's magnitude is a fraction a / c, and `roundIn` gives it the whole number q with 2a - c < 2qc ≤ 2a + c: q is no more than a half away from a / c.
+-- So no whole number is nearer, and of two that are as near q is the one further from zero. Below 2 ^ prec the format holds every whole number, and a value beyond has no fraction and is
+-- its own q: so the format holds q, and nothing is rounded a second time.
+use mathlib.Core.Path.{_≡_, refl, sym, ap, ap₂, _∙_, subst, subst₂}
+use mathlib.Core.Logic.{inl, inr}
+use mathlib.Core.Bool.{Bool, true, false, not, cond}
+use Prim.Native.Nat.{ℕ, zero, suc, _+_, _*_, _/_, _^_, _≤_, _<_, zero-le, suc-le-suc}
+use native.Mathlib.Nat.{add-mul, div-lt-iff-lt-mul, div-mul-le-self, div-one, eq-of-mul-eq-mul-right, eq-or-lt-of-le, eq-zero-or-pos, le-antisymm, le-of-eq, le-of-lt, le-of-mul-le-mul-right, le-refl, le-trans, lt-irrefl, lt-of-lt-of-le, lt-of-not-le, mul-assoc, mul-comm, mul-le-mul-left, mul-le-mul-right, mul-left-comm, mul-mul-mul-comm, mul-one, mul-pos, suc-mul, zero-div, zero-lt-suc, zero-mul}
+use native.Mathlib.Decide.{decLe}
+use native.Mathlib.Omega.{arith}
+use lib.IntN.{ℤ, pos, negsuc}
+use lib.Dec.{T, ltb, nltb→le}
+use lib.Arith.{le→nltb}
+use lib.Pow.{pow-add, pow-mono, pow-pos}
+use lib.Ieee.{Float, nan, inf, fin, Format, binary64, prec, low, hid, up, down, odd, units, round, neg, fits, isNan, lt, le}
+use lib.Ieee.Back.{round-whole, whole-unique}
+use lib.Ieee.Exact.{HasValue, round-exact}
+use lib.Ieee.Fits.{down-pos, round-is, round-fits as rounded-fits}
+use lib.Ieee.Nearest.{div-mono}
+use lib.Ieee.Scale.{overflow}
+use Rattle.leaves.specs.Nearest.{gap, NearestWhole}
+use Rattle.leaves.specs.Round.{nearestWhole, roundIn, roundOf}
+use Rattle.leaves.proofs.Order.{le→not-lt, minusZero, not-lt→le}
+use Rattle.leaves.proofs.Packing.{prec-hid}
+use Rattle.leaves.proofs.Values.{held, units-small, units-zero, unitsIn}
+
+-- ---- a whole number within a half
+
+step : (n q c : ℕ) → n < q → n * c + c ≤ q * c
+step n q c h = subst (λ (x : ℕ). x ≤ q * c) (suc-mul n c) (mul-le-mul-right c h)
+
+module _ (a c q : ℕ) (lo : 2 * (q * c) ≤ 2 * a + c) (hi : 2 * a < 2 * (q * c) + c) where
+  within-near : (n : ℕ) → gap (q * c) a ≤ gap (n * c) a
+  within-near n = elim (decLe n q) [
+    | yes h ↦ elim (eq-or-lt-of-le h) [ inl e ↦ le-of-eq (ap (λ (x : ℕ). gap (x * c) a) (sym e)) | inr l ↦ omega (arith, step n q c l) ]
+    | no h ↦ omega (arith, step q n c (lt-of-not-le h))
+  ]
+
+  within-other-sign : (n : ℕ) → gap (q * c) a ≤ n * c + a
+  within-other-sign n = elim (eq-zero-or-pos q) [ inl e ↦ omega (arith, ap (λ (x : ℕ). x * c) e, zero-mul c) | inr l ↦ omega (arith, step 0 q c l) ]
+
+  within-away : (n : ℕ) → gap (n * c) a ≡ gap (q * c) a → n ≤ q
+  within-away n e = elim (decLe n q) [ yes h ↦ h | no h ↦ omega (arith, step q n c (lt-of-not-le h)) ]
+
+  within-only : (p : ℕ) → ((n : ℕ) → gap (p * c) a ≤ gap (n * c) a) → ((n : ℕ) → gap (n * c) a ≡ gap (p * c) a → n ≤ p) → p ≡ q
+  within-only p h k = le-antisymm (within-away p (le-antisymm (h q) (within-near p))) (k q (le-antisymm (within-near p) (h q)))
+
+-- what `nearestWhole` gives is one, and no more than a itself
+module _ (a c : ℕ) (C : 0 < c) where
+  reached : 2 * (nearestWhole a c * c) ≤ 2 * a + c
+  reached = subst (λ (x : ℕ). x ≤ 2 * a + c) (mul-left-comm (nearestWhole a c) 2 c) (div-mul-le-self (2 * a + c) (2 * c))
+
+  past : 2 * a < 2 * (nearestWhole a c * c) + c
+  past = go (nearestWhole a c) (div-lt-iff-lt-mul (mul-pos (zero-lt-suc 1) C) .0 (le-refl (suc (nearestWhole a c))))
+    where
+      go : (q : ℕ) → 2 * a + c < suc q * (2 * c) → 2 * a < 2 * (q * c) + c
+      go q h = omega (arith, suc-mul q (2 * c), mul-left-comm q 2 c)
+
+  at-most : nearestWhole a c ≤ a
+  at-most = go (nearestWhole a c) reached
+    where
+      go : (q : ℕ) → 2 * (q * c) ≤ 2 * a + c → q ≤ a
+      go q h = elim (decLe q a) [ yes l ↦ l | no l ↦ omega (arith, step a q c (lt-of-not-le l), mul-one a, mul-le-mul-left a C) ]
+
+-- a whole number is its own
+itself : (a : ℕ) → nearestWhole a 1 ≡ a
+itself a = omega arith
+
+-- ---- the format holds that number
+
+pub round-value : (f : Format) (s : Bool) (m : ℕ) (e : ℤ) → T (fits f (fin s m e)) → HasValue (roundIn f (fin s m e)) s (nearestWhole (m * up e) (down e)) 1
+unfolding roundIn
+round-value f s m (pos k) h =
+    let e : m * 2 ^ k * 2 ^ low f ≡ m * 2 ^ (k + low f) = mul-assoc m (2 ^ k) (2 ^ low f) ∙ ap (λ (x : ℕ). m * x) (sym (pow-add 2 k (low f))) in
+    subst (λ (q : ℕ). HasValue (round f s q 1) s q 1) (sym (itself (m * 2 ^ k)))
+    (round-exact f s (m * 2 ^ k) 1 m (k + low f) (zero-lt-suc 0) (held f s m (pos k) h .digits)
+    (subst (λ (x : ℕ). x < overflow f) (div-one (m * 2 ^ k * 2 ^ low f) ∙ e) (units-small f (fin s m (pos k)) h))
+    (e ∙ sym (mul-one (m * 2 ^ (k + low f)))))
+round-value f s m (negsuc k) h =
+    round-whole f s (nearestWhole (m * 1) (2 ^ suc k))
+    (le-trans (at-most (m * 1) (2 ^ suc k) (pow-pos (suc k))) (le-trans (le-of-eq (mul-one m)) (le-of-lt (held f s m (negsuc k) h .digits))))
+
+-- Round: nearest whole number, halves away from zero, sign of zero kept; infinity itself, NaN a NaN.
+pub round-nearest : (f : Format) (s : Bool) (m : ℕ) (e : ℤ) → T (fits f (fin s m e)) → NearestWhole (roundIn f (fin s m e)) s (m * up e) (down e) (nearestWhole (m * up e) (down e))
+round-nearest f s m e h =
+    let a = m * up e in
+    let c = down e in
+    let q = nearestWhole a c in
+    let lo = reached a c (down-pos e) in
+    let hi = past a c (down-pos e) in
+    record {
+      value = round-value f s m e h;
+      near = within-near a c q lo hi;
+      other-sign = within-other-sign a c q lo hi;
+      away = within-away a c q lo hi;
+      only = within-only a c q lo hi;
+    }
+
+pub f64-round-nearest : (s : Bool) (m : ℕ) (e : ℤ) → T (fits binary64 (fin s m e)) → NearestWhole (roundOf (fin s m e)) s (m * up e) (down e) (nearestWhole (m * up e) (down e))
+unfolding roundOf
+f64-round-nearest s m e h = round-nearest binary64 s m e h
+
+pub round-fits : (f : Format) (x : Float) → T (fits f (roundIn f x))
+unfolding roundIn fits
+round-fits f nan = tt
+round-fits f (inf s) = tt
+round-fits f (fin s m e) = rounded-fits f s (nearestWhole (m * up e) (down e)) 1
+
+-- a value with no fraction is its own whole number
+pub round-whole-value : (f : Format) (s : Bool) (m k : ℕ) → T (fits f (fin s m (pos k))) → roundIn f (fin s m (pos k)) ≡ fin s m (pos k)
+round-whole-value f s m k h =
+    whole-unique f (roundIn f (fin s m (pos k))) (fin s m (pos k)) s (m * 2 ^ k) (round-fits f (fin s m (pos k))) h
+    (subst (λ (q : ℕ). HasValue (roundIn f (fin s m (pos k))) s q 1) (itself (m * 2 ^ k)) (round-value f s m (pos k) h))
+    (refl, refl)
+
+pub round-special : (f : Format) (s : Bool) → (roundIn f nan ≡ nan) × (roundIn f (inf s) ≡ inf s) × (roundIn f (fin s 0 (pos 0)) ≡ fin s 0 (pos 0))
+unfolding roundIn fits
+round-special f s = (refl, refl, round-whole-value f s 0 0 tt)
+
+-- a zero is itself, however it is written
+pub round-zero : (f : Format) (s : Bool) (m : ℕ) (e : ℤ) → T (fits f (fin s m e)) → m * up e ≡ 0 → roundIn f (fin s m e) ≡ fin s m e
+round-zero f s m e h z =
+    let none : unitsIn f (fin s m e) ≡ 0 = ap (λ (x : ℕ). x * 2 ^ low f / down e) z ∙ ap (λ (x : ℕ). x / down e) (zero-mul (2 ^ low f)) ∙ zero-div (down e) in
+    subst (λ (x : Float). roundIn f x ≡ x) (sym (units-zero f s m e h none)) (round-special f s .2)
+
+-- from 2 ^ (prec - 1) on no value has a fraction
+pub round-large : (f : Format) (s : Bool) (m : ℕ) (e : ℤ) → T (fits f (fin s m e)) → hid f * down e ≤ m * up e → roundIn f (fin s m e) ≡ fin s m e
+round-large f s m (pos k) h l = round-whole-value f s m k h
+round-large f s m (negsuc k) h l =
+    let more : hid f * 2 ≤ hid f * 2 ^ suc k = mul-le-mul-left (hid f) (pow-mono (suc-le-suc (zero-le {n = k}))) in
+    absurd (lt-irrefl m (lt-of-lt-of-le (subst (λ (x : ℕ). m < x) (prec-hid f) (held f s m (negsuc k) h .digits)) (le-trans more (le-trans l (le-of-eq (mul-one m))))))
+
+-- ---- the sign
+
+neg-odd : (d : ℕ) (s : Bool) (q k l : ℕ) → odd d (not s) q k l ≡ neg (odd d s q k l)
+unfolding odd neg
+neg-odd d s zero k l = refl
+neg-odd d s (suc q) k l = refl
+
+neg-units : (f : Format) (s : Bool) (q k : ℕ) → units f (not s) q k ≡ neg (units f s q k)
+unfolding units neg
+neg-units f s q k = go (ltb (q * 2 ^ k) (overflow f))
+  where
+    go : (b : Bool) → cond b (odd (suc (prec f)) (not s) q k (low f)) (inf (not s)) ≡ neg (cond b (odd (suc (prec f)) s q k (low f)) (inf s))
+    go true = neg-odd (suc (prec f)) s q k (low f)
+    go false = refl
+
+pub round-neg : (f : Format) (x : Float) → roundIn f (neg x) ≡ neg (roundIn f x)
+unfolding roundIn neg
+round-neg f nan = refl
+round-neg f (inf s) = refl
+round-neg f (fin s m e) =
+    let q = nearestWhole (m * up e) (down e) in
+    round-is f (not s) q 1 ∙ neg-units f s _ _ ∙ ap neg (sym (round-is f s q 1))
+
+-- ---- -0
+
+zero-value : (x : Float) (s : Bool) (q : ℕ) → HasValue x s q 1 → T (minusZero x) → (s ≡ true) × (q ≡ 0)
+zero-value nan s q v t = absurd t
+zero-value (inf u) s q v t = absurd t
+zero-value (fin false m e) s q v t = absurd t
+zero-value (fin true (suc m) e) s q v t = absurd t
+zero-value (fin true zero e) s q v t = (sym (v .0), eq-of-mul-eq-mul-right (down e) (down-pos e) q 0 (sym (v .1) ∙ ap (λ (x : ℕ). x * 1) (zero-mul (up e)) ∙ sym (zero-mul (down e))))
+
+-- the answer is -0 only for -0 itself and what lies between -1/2 and it
+pub round-minus-zero : (f : Format) (s : Bool) (m : ℕ) (e : ℤ) → T (fits f (fin s m e)) → T (minusZero (roundIn f (fin s m e))) → (s ≡ true) × (2 * (m * up e) < down e)
+round-minus-zero f s m e h t =
+    let z = zero-value (roundIn f (fin s m e)) s (nearestWhole (m * up e) (down e)) (round-value f s m e h) t in
+    (z .0, go (nearestWhole (m * up e) (down e)) (z .1) (past (m * up e) (down e) (down-pos e)))
+  where
+    go : (q : ℕ) → q ≡ 0 → 2 * (m * up e) < 2 * (q * down e) + down e → 2 * (m * up e) < down e
+    go q z l = omega (arith, ap (λ (x : ℕ). x * down e) z, zero-mul (down e))
+
+-- ---- the order: a larger value rounds to no smaller one
+
+-- ±p ≤ ±q
+abbrev Ordered : Bool → ℕ → Bool → ℕ → Type 0
+Ordered false p false q = p ≤ q
+Ordered false p true q = q + p ≤ 0
+Ordered true p false q = Unit {0}
+Ordered true p true q = q ≤ p
+
+le→ordered : (s : Bool) (m : ℕ) (e : ℤ) (t : Bool) (n : ℕ) (d : ℤ) → T (le (fin s m e) (fin t n d)) → Ordered s (m * up e * down d) t (n * up d * down e)
+le→ordered s m e t n d l = go s t (le→not-lt (fin s m e) (fin t n d) l)
+  where
+    go : (s t : Bool) → T (not (lt (fin t n d) (fin s m e))) → Ordered s (m * up e * down d) t (n * up d * down e)
+    go false false l = unfold lt in nltb→le (n * up d * down e) (m * up e * down d) l
+    go false true l = unfold lt in nltb→le 0 (n * up d * down e + m * up e * down d) l
+    go true false l = tt
+    go true true l = unfold lt in nltb→le (m * up e * down d) (n * up d * down e) l
+
+ordered→le : (s : Bool) (m : ℕ) (e : ℤ) (t : Bool) (n : ℕ) (d : ℤ) → Ordered s (m * up e * down d) t (n * up d * down e) → T (le (fin s m e) (fin t n d))
+unfolding isNan
+ordered→le s m e t n d l = not-lt→le (fin t n d) (fin s m e) tt tt (go s t l)
+  where
+    go : (s t : Bool) → Ordered s (m * up e * down d) t (n * up d * down e) → T (not (lt (fin t n d) (fin s m e)))
+    go false false l = unfold lt in le→nltb (n * up d * down e) (m * up e * down d) l
+    go false true l = unfold lt in le→nltb 0 (n * up d * down e + m * up e * down d) l
+    go true false l = unfold lt in tt
+    go true true l = unfold lt in le→nltb (m * up e * down d) (n * up d * down e) l
+
+nearest-mono : (a c b d : ℕ) → 0 < c → 0 < d → a * d ≤ b * c → nearestWhole a c ≤ nearestWhole b d
+nearest-mono a c b d C D h =
+    div-mono (2 * a + c) (2 * c) (2 * b + d) (2 * d) (mul-pos (zero-lt-suc 1) C) (mul-pos (zero-lt-suc 1) D)
+    (omega (arith, parts a c d, parts b d c, mul-comm c d))
+  where
+    parts : (a c d : ℕ) → (2 * a + c) * (2 * d) ≡ 4 * (a * d) + 2 * (c * d)
+    parts a c d = add-mul (2 * a) c (2 * d) ∙ ap₂ (λ (x y : ℕ). x + y) (mul-mul-mul-comm 2 a 2 d) (mul-left-comm c 2 d)
+
+none-left : (a d : ℕ) → 0 < d → a * d ≤ 0 → a ≤ 0
+none-left a d D h = le-of-mul-le-mul-right (le-trans h zero-le) D
+
+-- of two fractions in order the whole numbers are in order, and so are the values that have them
+ordered-whole : (s t : Bool) (a c b d : ℕ) → 0 < c → 0 < d → Ordered s (a * d) t (b * c) → Ordered s (nearestWhole a c) t (nearestWhole b d)
+ordered-whole false false a c b d C D h = nearest-mono a c b d C D h
+ordered-whole false true a c b d C D h = go (a * d) (b * c) (nearestWhole a c) (nearestWhole b d) (λ (l : a * d ≤ 0). le-trans (at-most a c C) (none-left a d D l)) (λ (l : b * c ≤ 0). le-trans (at-most b d D) (none-left b c C l)) h
+  where
+    go : (x y p q : ℕ) → (x ≤ 0 → p ≤ 0) → (y ≤ 0 → q ≤ 0) → y + x ≤ 0 → q + p ≤ 0
+    go x y p q f g h = omega (arith, f (omega arith), g (omega arith))
+ordered-whole true false a c b d C D h = tt
+ordered-whole true true a c b d C D h = nearest-mono b d a c D C h
+
+ordered-scaled : (s t : Bool) (p q k : ℕ) → Ordered s p t q → Ordered s (p * k) t (q * k)
+ordered-scaled false false p q k h = mul-le-mul-right k h
+ordered-scaled false true p q k h = omega (arith, add-mul q p k, mul-le-mul-right k h, zero-mul k)
+ordered-scaled true false p q k h = tt
+ordered-scaled true true p q k h = mul-le-mul-right k h
+
+of-values : (x y : Float) (s t : Bool) (p q : ℕ) → HasValue x s p 1 → HasValue y t q 1 → Ordered s p t q → T (le x y)
+of-values nan y s t p q v w h = absurd v
+of-values (inf u) y s t p q v w h = absurd v
+of-values (fin u m e) nan s t p q v w h = absurd w
+of-values (fin u m e) (inf z) s t p q v w h = absurd w
+of-values (fin u m e) (fin z n d) s t p q v w h =
+    let a : m * up e * down d ≡ p * (down e * down d) = ap (λ (i : ℕ). i * down d) (sym (mul-one (m * up e)) ∙ v .1) ∙ mul-assoc p (down e) (down d) in
+    let b : n * up d * down e ≡ q * (down e * down d) = ap (λ (i : ℕ). i * down e) (sym (mul-one (n * up d)) ∙ w .1) ∙ mul-assoc q (down d) (down e) ∙ ap (λ (i : ℕ). q * i) (mul-comm (down d) (down e)) in
+    ordered→le u m e z n d (subst₂ (λ (i j : ℕ). Ordered u i z j) (sym a) (sym b) (ordered-scaled u z p q (down e * down d) (subst₂ (λ (i j : Bool). Ordered i p j q) (sym (v .0)) (sym (w .0)) h)))
+
+between : (x : Float) (s : Bool) (p : ℕ) → HasValue x s p 1 → T (le (inf true) x) × T (le x (inf false))
+unfolding le
+between nan s p v = absurd v
+between (inf u) s p v = absurd v
+between (fin u m e) s p v = (tt, tt)
+
+pub round-mono : (f : Format) (x y : Float) → T (fits f x) → T (fits f y) → T (le x y) → T (le (roundIn f x) (roundIn f y))
+unfolding le roundIn
+round-mono f nan y h k l = absurd l
+round-mono f (inf s) nan h k l = absurd l
+round-mono f (inf s) (inf t) h k l = l
+round-mono f (inf true) (fin t n d) h k l = between (roundIn f (fin t n d)) t (nearestWhole (n * up d) (down d)) (round-value f t n d k) .0
+round-mono f (inf false) (fin t n d) h k l = absurd l
+round-mono f (fin s m e) nan h k l = absurd l
+round-mono f (fin s m e) (inf true) h k l = absurd l
+round-mono f (fin s m e) (inf false) h k l = between (roundIn f (fin s m e)) s (nearestWhole (m * up e) (down e)) (round-value f s m e h) .1
+round-mono f (fin s m e) (fin t n d) h k l =
+    of-values (roundIn f (fin s m e)) (roundIn f (fin t n d)) s t (nearestWhole (m * up e) (down e)) (nearestWhole (n * up d) (down d)) (round-value f s m e h) (round-value f t n d k)
+    (ordered-whole s t (m * up e) (down e) (n * up d) (down d) (down-pos e) (down-pos d) (le→ordered s m e t n d l))

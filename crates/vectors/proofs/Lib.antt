@@ -1,0 +1,2 @@
+-- Laws about the numbers of the vectors.
+pub mod Patterns

@@ -1,0 +1,180 @@
+//! Makes the copies of the original that the oracle runs, by text, from the
+//! unmodified files in `original/`. Every cut and every replacement asserts how
+//! often its text is found, so a changed original stops the build.
+
+use std::env;
+use std::fs;
+use std::path::{Path, PathBuf};
+
+/// Calls of `hypot` in uv.rs; document 01's stand-in takes the place of each.
+const HYPOT_CALLS: usize = 10;
+
+/// What the recorded copy adds: (text of uv.rs, the recorder before it).
+/// `reached(n)` stands before check n of document 01 decides.
+const RECORDERS: [(&str, &str); 8] = [
+    (
+        "    // A candidate must be inside an odd number",
+        "reached(11)",
+    ),
+    ("    if periodic_ray {\n        scale[0] = ", "reached(12)"),
+    ("    if joins.iter().any(", "reached(13)"),
+    ("    let normalized: Vec<Vec<_>> = ", "reached(14)"),
+    ("            let mut distance = f64::INFINITY;", "covered()"),
+    ("    let p = best.filter(", "searched(clearance)"),
+    ("    let point = xyz(", "chosen(p)"),
+    ("    (physical_clearance > ", "reached(15)"),
+];
+
+/// Appended to every copy of uv.rs: its private functions, for the driver.
+const EXPORTS: &str = "
+// Appended by build.rs. Above this line stands the original's text.
+pub(crate) mod exports {
+    use super::{Context, Value, V3};
+
+    pub(crate) fn point(ctx: &Context, face: &Value, geometry: &Value) -> Option<V3> {
+        super::point(ctx, face, geometry)
+    }
+
+    pub(crate) fn pick(ctx: &Context, face: &Value, geometry: &Value, phase: f64) -> Option<V3> {
+        super::pick(ctx, face, geometry, phase)
+    }
+
+    pub(crate) fn spherical_triangle(
+        ctx: &Context,
+        face: &Value,
+        geometry: &Value,
+    ) -> Option<V3> {
+        super::spherical_triangle(ctx, face, geometry)
+    }
+
+    pub(crate) fn inside(ring: &[[f64; 2]], p: [f64; 2]) -> bool {
+        super::inside(ring, p)
+    }
+
+    pub(crate) fn periodic_winding(rings: &[Vec<[f64; 2]>], p: [f64; 2], period: f64) -> i32 {
+        super::periodic_winding(rings, p, period)
+    }
+}
+";
+
+/// Appended where `hypot` was replaced: the stand-in is a method of this trait.
+const STAND_IN: &str = "
+use crate::stand_in::RootOfSquares as _;
+";
+
+fn main() {
+    let manifest = PathBuf::from(env::var_os("CARGO_MANIFEST_DIR").expect("set by cargo"));
+    let out = PathBuf::from(env::var_os("OUT_DIR").expect("set by cargo"));
+    println!("cargo:rerun-if-changed=build.rs");
+    write_copies(&manifest.join("original"), &out);
+    find_archive(&manifest);
+}
+
+fn write_copies(original: &Path, out: &Path) {
+    println!("cargo:rerun-if-changed={}", original.display());
+    let uv = read(&original.join("uv.rs"));
+    let sketch = sketch_parts(&read(&original.join("sketch.rs")));
+    let faces = function(&read(&original.join("faces.rs")), "fn inside(");
+
+    let standing_in = replaced(&uv, ".hypot(", ".root_of_squares(", HYPOT_CALLS);
+    let mut recorded = standing_in.clone();
+    for (text, recorder) in RECORDERS {
+        let with_recorder = format!("    crate::recorder::{recorder};\n{text}");
+        recorded = replaced(&recorded, text, &with_recorder, 1);
+    }
+    let copies = [
+        ("stand_in", standing_in + STAND_IN + EXPORTS),
+        ("recorded", recorded + STAND_IN + EXPORTS),
+        ("published", uv + EXPORTS),
+    ];
+    let mut modules = String::new();
+    for (name, text) in copies {
+        let path = out.join(format!("uv_{name}.rs"));
+        write(&path, &text);
+        modules += &wrapper(name, &sketch, &faces, &path);
+    }
+    write(&out.join("copies.rs"), &modules);
+}
+
+/// The modules around one copy of uv.rs, under the names that it looks for.
+fn wrapper(name: &str, sketch: &str, faces: &str, uv: &Path) -> String {
+    format!(
+        "pub(crate) mod {name} {{
+mod sketch {{
+use serde_json::Value;
+{sketch}}}
+pub(crate) mod faces {{
+use super::sketch::{{v3, V3}};
+use crate::shims::Context;
+{faces}
+#[path = {uv:?}]
+mod uv;
+pub(crate) use uv::exports;
+}}
+}}
+"
+    )
+}
+
+/// Of sketch.rs, what uv.rs needs.
+fn sketch_parts(text: &str) -> String {
+    let mut parts = statement(text, "const PARALLEL: f64 = ");
+    parts += &statement(text, "pub(crate) type V3 = ");
+    for name in ["number", "v3", "dot", "cross", "unit"] {
+        parts += &function(text, &format!("pub(crate) fn {name}("));
+    }
+    parts
+}
+
+/// A function at the left margin, from `start` to the brace that closes it.
+fn function(text: &str, start: &str) -> String {
+    cut(text, start, "\n}\n")
+}
+
+fn statement(text: &str, start: &str) -> String {
+    cut(text, start, ";\n")
+}
+
+/// The text from `start`, which begins exactly one line, through the next `end`.
+fn cut(text: &str, start: &str, end: &str) -> String {
+    let start = format!("\n{start}");
+    assert_eq!(text.matches(&start).count(), 1, "{start:?} is found once");
+    let tail = text.split_once(&start).expect("found above").1;
+    let body = tail.split_once(end).expect("a cut has an end").0;
+    format!("{}{body}{end}", start.trim_start())
+}
+
+fn replaced(text: &str, from: &str, to: &str, hits: usize) -> String {
+    assert_eq!(text.matches(from).count(), hits, "hits of {from:?}");
+    text.replace(from, to)
+}
+
+/// Links the proved leaves where their archive stands; all else builds without.
+fn find_archive(manifest: &Path) {
+    println!("cargo:rustc-check-cfg=cfg(facepoint_archive)");
+    println!("cargo:rerun-if-env-changed=FACEPOINT_ARCHIVE");
+    let archive = env::var_os("FACEPOINT_ARCHIVE").map_or_else(
+        || manifest.join("../../target/staticlib/libcapi.a"),
+        PathBuf::from,
+    );
+    // A path that is not there yet makes cargo look again at the next build.
+    println!("cargo:rerun-if-changed={}", archive.display());
+    if !archive.is_file() {
+        return;
+    }
+    let archive = archive.canonicalize().expect("the archive is a file");
+    let folder = archive.parent().expect("a file has a folder");
+    let name = archive.file_stem().and_then(|stem| stem.to_str());
+    let name = name.and_then(|stem| stem.strip_prefix("lib"));
+    println!("cargo:rustc-cfg=facepoint_archive");
+    println!("cargo:rustc-link-search=native={}", folder.display());
+    println!("cargo:rustc-link-lib=static={}", name.expect("libNAME.a"));
+}
+
+fn read(path: &Path) -> String {
+    fs::read_to_string(path).unwrap_or_else(|e| panic!("{}: {e}", path.display()))
+}
+
+fn write(path: &Path, text: &str) {
+    fs::write(path, text).unwrap_or_else(|e| panic!("{}: {e}", path.display()));
+}

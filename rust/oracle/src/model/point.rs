@@ -1,0 +1,107 @@
+//! "Point" of document 01: the plane stand-in, the clearance in space, check 15.
+
+use super::chart::{segments, Chart};
+use super::fault::Fault;
+use super::leaves::{hypot3, larger_of, smaller_of};
+use super::reader::{Plane, Ring};
+use super::{Answer, Model};
+
+type Position = [f64; 3];
+
+impl Model {
+    /// (origin + u × u axis) + v × (normal cross u axis).
+    pub(super) fn on_plane(&self, plane: &Plane, u: f64, v: f64) -> Position {
+        let v_axis = if self.is(Fault::PlaneCrossReversed) {
+            cross(plane.u_axis, plane.normal)
+        } else {
+            cross(plane.normal, plane.u_axis)
+        };
+        let mut point = [0.0; 3];
+        for k in 0..3 {
+            point[k] = if self.is(Fault::PlaneSumReordered) {
+                plane.origin[k] + (u * plane.u_axis[k] + v * v_axis[k])
+            } else {
+                (plane.origin[k] + u * plane.u_axis[k]) + v * v_axis[k]
+            };
+        }
+        point
+    }
+
+    /// Images follow the chart's written points, the candidate's last, which is
+    /// the point answered. Check 15: physical clearance not above
+    /// larger-of(8 × greatest deviation, 1e-7).
+    pub(super) fn answer_in_space(
+        &self,
+        chart: &Chart,
+        images: &[Position],
+    ) -> Result<Answer, u32> {
+        let (point, boundary) = images.split_last().ok_or(15u32)?;
+        let mut physical = f64::INFINITY;
+        let mut rest = boundary;
+        for ring in &chart.moved {
+            let (images, after) = rest.split_at(ring.len());
+            for (a, b) in segments(images) {
+                physical = smaller_of(physical, self.distance_in_space(a, b, *point));
+            }
+            rest = after;
+        }
+        let limit = self.limit(&chart.layout.rings);
+        let at_limit = physical == limit && self.is(Fault::PhysicalClearanceAtLimitPasses);
+        if !(physical > limit || at_limit) {
+            return Err(15);
+        }
+        let [x, y, z] = *point;
+        let clearance = if self.is(Fault::PhysicalClearanceReported) {
+            physical
+        } else {
+            chart.candidate.clearance
+        };
+        Ok(Answer::Point {
+            x,
+            y,
+            z,
+            clearance,
+            count: chart.candidate.count,
+        })
+    }
+
+    fn limit(&self, rings: &[Ring]) -> f64 {
+        let looked_at = if self.is(Fault::DeviationOfFirstRing) {
+            &rings[..1]
+        } else {
+            rings
+        };
+        let coedges = looked_at.iter().flatten();
+        let greatest = coedges.fold(0.0, |most, coedge| larger_of(most, coedge.deviation));
+        let times = if self.is(Fault::DeviationFourTimes) {
+            4.0
+        } else {
+            8.0
+        };
+        larger_of(times * greatest, 1e-7)
+    }
+
+    /// Rule 8 in space, with three-term hypot.
+    fn distance_in_space(&self, a: Position, b: Position, p: Position) -> f64 {
+        let d = [b[0] - a[0], b[1] - a[1], b[2] - a[2]];
+        let from_a = [p[0] - a[0], p[1] - a[1], p[2] - a[2]];
+        let t = self.parameter(dot(from_a, d), dot(d, d));
+        hypot3(
+            from_a[0] - t * d[0],
+            from_a[1] - t * d[1],
+            from_a[2] - t * d[2],
+        )
+    }
+}
+
+fn dot(a: Position, b: Position) -> f64 {
+    a[0] * b[0] + a[1] * b[1] + a[2] * b[2]
+}
+
+fn cross(a: Position, b: Position) -> Position {
+    [
+        a[1] * b[2] - a[2] * b[1],
+        a[2] * b[0] - a[0] * b[2],
+        a[0] * b[1] - a[1] * b[0],
+    ]
+}

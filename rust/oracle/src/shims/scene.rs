@@ -1,0 +1,77 @@
+//! What the geometry shims answer from: one sheet's samples and the surface of
+//! the final part. One scene for each thread, as the original runs on its
+//! caller's and the shims are reached through it alone.
+
+use std::cell::RefCell;
+
+use crate::sheet::Uv;
+use crate::surface::Surface;
+
+/// A point of the sheet as `edge_points` is to find it.
+#[derive(Clone, Copy)]
+pub struct Sample {
+    pub uv: Uv,
+    pub deviation: f64,
+}
+
+pub struct Scene {
+    /// All points of the sheet in file order; the index names the sample.
+    pub samples: Vec<Sample>,
+    pub surface: Surface,
+    /// The sample whose parameters were just asked for: the evaluation that
+    /// follows measures its deviation.
+    pending: Option<usize>,
+    /// The surface evaluations of the final part, in order.
+    pub calls: Vec<Uv>,
+}
+
+impl Scene {
+    pub fn new(samples: Vec<Sample>, surface: Surface) -> Scene {
+        Scene {
+            samples,
+            surface,
+            pending: None,
+            calls: Vec::new(),
+        }
+    }
+
+    /// A point that names the sample.
+    pub fn name(index: usize) -> [f64; 3] {
+        [index as f64, 0.0, 0.0]
+    }
+
+    /// The chart point of the sample that `name` names.
+    pub fn parameters(&mut self, name: [f64; 3]) -> Option<Uv> {
+        let index = name[0] as usize;
+        self.pending = Some(index);
+        self.samples.get(index).map(|sample| sample.uv)
+    }
+
+    /// Right after `parameters`: a point exactly the sample's deviation away
+    /// from its name, as root(d×d) is d. Later: a point of the surface.
+    pub fn evaluate(&mut self, uv: Uv) -> Option<[f64; 3]> {
+        if let Some(index) = self.pending.take() {
+            let name = Scene::name(index);
+            return Some([name[0], self.samples[index].deviation, name[2]]);
+        }
+        self.calls.push(uv);
+        self.surface.point(uv[0], uv[1])
+    }
+}
+
+thread_local! {
+    static SCENE: RefCell<Option<Scene>> = const { RefCell::new(None) };
+}
+
+pub fn set(scene: Scene) {
+    SCENE.with(|cell| cell.replace(Some(scene)));
+}
+
+pub fn take() -> Option<Scene> {
+    SCENE.with(RefCell::take)
+}
+
+/// None where no scene is set.
+pub fn with<T>(ask: impl FnOnce(&mut Scene) -> Option<T>) -> Option<T> {
+    SCENE.with(|cell| cell.borrow_mut().as_mut().and_then(ask))
+}
