@@ -29,6 +29,9 @@ pub fn root_arguments() -> Vec<f64> {
     squares(&mut rng, &mut list);
     near_ties(&mut rng, &mut list);
     ends_of_binades(&mut list);
+    for e in 51..54 {
+        list.extend(beside(2.0f64.powi(e)).map(f64::to_bits));
+    }
     list.extend((0..60).map(|_| SIGN | rng.bits() >> 1));
     // The root of a negative number is no test beyond those.
     filled(list, || rng.bits() >> 1)
@@ -44,8 +47,8 @@ pub fn round_arguments() -> Vec<f64> {
     }
     for e in 50..55 {
         let power = 2.0f64.powi(e);
-        for x in [power, power - 0.5, power - 1.0, power + 1.0, power + 2.0] {
-            both_signs(beside(x), &mut list);
+        for step in [-1.5, -1.0, -0.5, 0.0, 1.0, 2.0, 2.5] {
+            both_signs(beside(power + step), &mut list);
         }
     }
     for _ in 0..60 {
@@ -185,10 +188,11 @@ fn root_modulo(r: i128, k: u32) -> i128 {
     s
 }
 
-/// The first two and the last number of binades, odd and even exponents.
+/// The first number of binades with its neighbours, and the last number; odd and
+/// even exponents. An even power of two is an exact square.
 fn ends_of_binades(list: &mut Vec<u64>) {
     for exponent in (1..2046).step_by(17) {
         let first = exponent << 52;
-        list.extend([first, first + 1, first + (1 << 52) - 1]);
+        list.extend([first - 1, first, first + 1, first + (1 << 52) - 1]);
     }
 }

@@ -1,10 +1,11 @@
-//! The committed vectors are what `make_vectors` writes.
+//! The committed vectors are what `make_vectors` writes, and hold the arguments
+//! that a root or a rounding is most likely to get wrong.
 
 use std::collections::BTreeSet;
 use std::fs;
 use std::path::Path;
 
-use oracle::vectors::{root_file, round_file};
+use oracle::vectors::{root_arguments, root_file, round_arguments, round_file};
 
 fn committed(name: &str) -> String {
     let folder = Path::new(env!("CARGO_MANIFEST_DIR")).join("../../crates/vectors/data");
@@ -56,4 +57,57 @@ fn rows_of_document_01_are_among_them() {
     assert_eq!(answer_of(&round, 2.5), Some(3.0));
     assert_eq!(answer_of(&round, -2.5), Some(-3.0));
     assert_eq!(answer_of(&round, 0.499_999_999_999_999_94), Some(0.0));
+}
+
+/// Whether the number and both its neighbours are among the patterns.
+fn with_neighbours(patterns: &BTreeSet<u64>, x: f64) -> bool {
+    [x.next_down(), x, x.next_up()]
+        .iter()
+        .all(|y| patterns.contains(&y.to_bits()))
+}
+
+fn patterns(arguments: &[f64]) -> BTreeSet<u64> {
+    arguments.iter().map(|x| x.to_bits()).collect()
+}
+
+#[test]
+fn both_files_have_the_ends_of_the_range() {
+    for arguments in [root_arguments(), round_arguments()] {
+        let all = patterns(&arguments);
+        for x in [0.0, -0.0, f64::INFINITY, f64::NEG_INFINITY, f64::MAX] {
+            assert!(all.contains(&x.to_bits()), "{x:?}");
+        }
+        for e in 51..54 {
+            assert!(with_neighbours(&all, 2.0f64.powi(e)), "2^{e}");
+        }
+        let subnormal = arguments.iter().filter(|x| x.is_subnormal()).count();
+        assert!(subnormal >= 200, "{subnormal} subnormals");
+        assert!(arguments.iter().any(|x| x.is_nan()));
+    }
+}
+
+#[test]
+fn exact_squares_stand_beside_their_neighbours() {
+    let arguments = root_arguments();
+    let all = patterns(&arguments);
+    // Far enough above the subnormals for the fused product to be exact at 0.
+    let large = |x: &&f64| x.is_finite() && **x > 1e-250;
+    let is_square = |x: &&f64| x.sqrt().mul_add(x.sqrt(), -**x) == 0.0;
+    let squares: Vec<&f64> = arguments.iter().filter(large).filter(is_square).collect();
+    assert!(squares.len() >= 150, "{} squares", squares.len());
+    for x in squares {
+        assert!(with_neighbours(&all, *x), "{x:e}");
+    }
+}
+
+#[test]
+fn halves_stand_beside_their_neighbours() {
+    let arguments = round_arguments();
+    let all = patterns(&arguments);
+    let is_half = |x: &&f64| x.abs() < 2.0f64.powi(52) && x.fract().abs() == 0.5;
+    let halves: Vec<&f64> = arguments.iter().filter(is_half).collect();
+    assert!(halves.len() >= 400, "{} halves", halves.len());
+    for x in halves {
+        assert!(with_neighbours(&all, *x), "{x:?}");
+    }
 }
