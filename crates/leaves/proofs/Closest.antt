@@ -4,7 +4,7 @@ use mathlib.Core.Path.{_≡_, refl, sym, ap, _∙_, subst}
 use mathlib.Core.Logic.{_⊎_, inl, inr}
 use Prim.Native.Nat.{ℕ, zero, suc, _+_, _-_, _*_, _/_, _%_, _^_, _≤_, _<_, compare, Ordering, Ordering·lt, Ordering·eq, Ordering·gt}
 use native.Mathlib.Nat.{le-add-right, suc-mul, le-of-suc-le-suc, div-mul-le-self, le-trans, le-of-eq, le-of-lt, lt-of-not-le, not-le-of-lt, mul-assoc, mul-comm, mul-one, mul-pos, mul-le-mul-right, lt-of-mul-lt-mul-right, div-add-mod', mod-lt, div-div-eq-div-mul, le-div-iff-mul-le, add-mul, one-mul}
-use native.Mathlib.Numerals.{add-one}
+use native.Mathlib.Numerals.{add-one, add-one-le}
 use native.Mathlib.Omega.{arith}
 use lib.Dec.{T}
 use lib.Pow.{pow-add, pow-pos}
@@ -78,10 +78,7 @@ next-step f y w (suc k) h e l =
     le-trans (le-of-eq (pow-add 2 (prec f - 1) (suc k))) (le-trans (mul-le-mul-right p (all-digits f w k e)) (le-of-lt l)) in
     let s = spaced f y (suc k) h far in
     let more : Q < s .0 = lt-of-mul-lt-mul-right p (subst (λ (x : ℕ). Q * p < x) (s .1) l) in
-    subst (λ (x : ℕ). (Q + 1) * p ≤ x) (sym (s .1)) (mul-le-mul-right p (up Q (s .0) more))
-  where
-    up : (a b : ℕ) → a < b → a + 1 ≤ b
-    up a b h = omega arith
+    subst (λ (x : ℕ). (Q + 1) * p ≤ x) (sym (s .1)) (mul-le-mul-right p (add-one-le more))
 
 -- ---- the rounded value
 

@@ -1,6 +1,6 @@
 -- The root keeps the order, so the least of two roots is the root of the lesser; it is -0 only of -0 and never negative. Here "no sign" is said of a NaN too.
 -- Assumes nothing.
-use mathlib.Core.Path.{_≡_, refl, sym, ap, _∙_, subst}
+use mathlib.Core.Path.{_≡_, refl, sym, _∙_, subst}
 use mathlib.Core.Bool.{Bool, true, false, not, cond, true≢false}
 use Prim.Native.Nat.{ℕ, zero, suc, _+_, _-_, _*_, _^_, _≤_, _<_, zero-le}
 use native.Mathlib.Nat.{zero-lt-suc, le-of-eq, zero-mul, le-trans, lt-irrefl, lt-of-lt-of-le, mul-le-mul-right}
@@ -16,7 +16,7 @@ use lib.Ieee.Positive.{positive}
 use lib.Ieee.Scale.{overflow}
 use Rattle.leaves.specs.Bounds.{smallerOf}
 use Rattle.leaves.specs.Root.{rounded, rootIn}
-use Rattle.leaves.proofs.Values.{unitsIn, sign, units-of-value, units-zero, units-small}
+use Rattle.leaves.proofs.Values.{unitsIn, sign, zero-value, zero-units, units-zero, units-small}
 use Rattle.leaves.proofs.WholeRoots.{halves, halves-mono}
 use Rattle.leaves.proofs.Rounding.{rounded-is}
 use Rattle.leaves.proofs.RootCases.{zero-not-above, none-below}
@@ -38,9 +38,6 @@ finite-le-inf nan a c v = absurd v
 finite-le-inf (inf s) a c v = absurd v
 finite-le-inf (fin s m e) a c v = tt
 
-zero-value : (f : Format) (s : Bool) (e : ℤ) → HasValue (fin s zero e) s 0 (2 ^ low f)
-zero-value f s e = (refl, ap (λ (z : ℕ). z * 2 ^ low f) (zero-mul (up e)) ∙ zero-mul (2 ^ low f) ∙ sym (zero-mul (down e)))
-
 -- a zero is its own root
 root-of-zero : (f : Format) (s : Bool) (m : ℕ) (e : ℤ) → T (fits f (fin s m e)) → unitsIn f (fin s m e) ≡ 0 → rootIn f (fin s m e) ≡ fin s m e
 root-of-zero f s m e p u = subst (λ (z : Float). rootIn f z ≡ z) (sym (units-zero f s m e p u)) (plain s)
@@ -48,9 +45,6 @@ root-of-zero f s m e p u = subst (λ (z : Float). rootIn f z ≡ z) (sym (units-
     plain : (s : Bool) → rootIn f (fin s zero (pos 0)) ≡ fin s zero (pos 0)
     plain true = unfold rootIn in refl
     plain false = unfold rootIn in refl
-
-zero-units : (f : Format) (s : Bool) (e : ℤ) → unitsIn f (fin s zero e) ≡ 0
-zero-units f s e = units-of-value f (fin s zero e) s 0 (zero-value f s e)
 
 some : (n : ℕ) (d : ℤ) → T (positive (fin false (suc n) d))
 some n d = lt→ltb 0 (suc n) (zero-lt-suc n)

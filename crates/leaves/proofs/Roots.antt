@@ -5,7 +5,7 @@ use mathlib.Core.Path.{_≡_, refl, sym, ap, _∙_, subst}
 use mathlib.Core.Logic.{inl, inr}
 use mathlib.Core.Bool.{Bool, true, false, not, true≢false}
 use Prim.Native.Nat.{ℕ, zero, suc, _+_, _-_, _*_, _/_, _%_, _^_, _≤_, _<_, zero-le, suc-le-suc}
-use native.Mathlib.Nat.{add-le-add, le-refl, le-add-right, add-comm, eq-or-lt-of-le, le-antisymm, le-of-suc-le-suc, lt-of-not-le, eq-of-mul-eq-mul-right, le-suc, mul-one, mul-le-mul-left, pow-suc, sub-le, zero-mul, zero-add, le-trans, le-of-eq, le-of-lt, lt-of-lt-of-le, lt-of-le-of-lt, not-le-of-lt, lt-irrefl, mul-assoc, mul-comm, mul-right-comm, mul-pos, mul-lt-mul-of-pos-right, le-of-mul-le-mul-right, zero-lt-suc}
+use native.Mathlib.Nat.{add-le-add, le-refl, le-add-right, add-comm, eq-or-lt-of-le, le-antisymm, le-of-suc-le-suc, lt-of-not-le, eq-of-mul-eq-mul-right, le-suc, mul-one, mul-le-mul-left, pow-suc, sub-le, zero-add, le-trans, le-of-eq, le-of-lt, lt-of-lt-of-le, lt-of-le-of-lt, not-le-of-lt, lt-irrefl, mul-assoc, mul-comm, mul-right-comm, mul-pos, mul-lt-mul-of-pos-right, le-of-mul-le-mul-right, zero-lt-suc}
 use native.Mathlib.Omega.{arith}
 use lib.Dec.{T, ltb, lit≤, ltb→lt, nltb→le}
 use lib.Arith.{lt-of-le-ne}
@@ -19,11 +19,11 @@ use lib.Ieee.Scale.{finite, grid, overflow, round-val}
 use Rattle.leaves.specs.Root.{wholeRoot, sticky, rounded, squareUnits, rootIn, rootOf}
 use Rattle.leaves.specs.Nearest.{unitsIn, fourTimes, Nearer, NearestRoot}
 use Rattle.leaves.proofs.Squares.{PowerSquare, square-suc, square-twice, square-mono, square-lt, power-square}
-use Rattle.leaves.proofs.WholeRoots.{is-root, root-is, halves, sticky-cases, sticky-le}
+use Rattle.leaves.proofs.WholeRoots.{below-next, is-root, root-is, halves, sticky-cases, sticky-le}
 use Rattle.leaves.proofs.Rounding.{rounded-is, quarter}
 use Rattle.leaves.proofs.Closest.{midpoint-below, midpoint-above, grid-small, grid-some}
 use Rattle.leaves.proofs.PackedRoots.{rounded-fits, root-of-value}
-use Rattle.leaves.proofs.Values.{held as in-format, odd, same-units, shifted, own-units, units-of-value, units-small}
+use Rattle.leaves.proofs.Values.{zero-units, held as in-format, odd, same-units, shifted, own-units, units-of-value, units-small}
 use Rattle.leaves.proofs.Order.{lt→place, place→lt}
 
 -- ---- the root of n, rounded, in units
@@ -102,9 +102,6 @@ zero-held : (f : Format) → T (fits f (fin false zero (pos 0)))
 unfolding fits
 zero-held f = tt
 
-zero-units : (f : Format) → unitsIn f (fin false zero (pos 0)) ≡ 0
-zero-units f = units-of-value f (fin false zero (pos 0)) false 0 (refl, zero-mul (2 ^ low f))
-
 cancel : (o a b : ℕ) → o + a < o + b → a < b
 cancel o a b h = omega arith
 
@@ -132,7 +129,7 @@ module _ (f : Format) (x : Float) (held : T (fits f x)) where
 
   -- the root's own square is at most four times x
   own-square : rootUnits f x * rootUnits f x ≤ fourTimes f x
-  own-square = go (rootUnits f x) (subst (λ (z : ℕ). z < rootUnits f x → (z + rootUnits f x) * (z + rootUnits f x) ≤ fourTimes f x) (zero-units f) (sum-with-less (fin false zero (pos 0)) (zero-held f)))
+  own-square = go (rootUnits f x) (subst (λ (z : ℕ). z < rootUnits f x → (z + rootUnits f x) * (z + rootUnits f x) ≤ fourTimes f x) (zero-units f false (pos 0)) (sum-with-less (fin false zero (pos 0)) (zero-held f)))
     where
       go : (g : ℕ) → (0 < g → (0 + g) * (0 + g) ≤ fourTimes f x) → g * g ≤ fourTimes f x
       go zero h = zero-le
@@ -303,10 +300,7 @@ root-some f x held p =
     large X l a b e = le-trans (mul-le-mul-left 4 (mul-pos a b)) (le-of-eq (sym e))
 
     two-at-least : (n : ℕ) → 4 ≤ n → 2 ≤ wholeRoot n
-    two-at-least n h = below (wholeRoot n) (square-lt (lt-of-le-of-lt h (is-root n .past)))
-      where
-        below : (r : ℕ) → 2 < r + 1 → 2 ≤ r
-        below r h = omega arith
+    two-at-least n h = below-next 2 (wholeRoot n) (square-lt (lt-of-le-of-lt h (is-root n .past)))
 
 -- the root's own square is below four times x: at equality the root would be twice itself
 own-square-below : (f : Format) (x : Float) → T (fits f x) → T (positive x) → rootUnits f x * rootUnits f x < fourTimes f x

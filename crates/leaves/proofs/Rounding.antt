@@ -6,6 +6,7 @@ use mathlib.Core.Logic.{inl, inr}
 use mathlib.Core.Bool.{false, not}
 use Prim.Native.Nat.{ℕ, zero, suc, _+_, _-_, _*_, _/_, _%_, _^_, _≤_, _<_, compare, Ordering, Ordering·lt, Ordering·eq, Ordering·gt}
 use native.Mathlib.Nat.{le-antisymm, le-trans, le-of-eq, lt-irrefl, lt-of-le-of-lt, lt-of-lt-of-le, lt-of-not-le, not-le-of-lt, mul-assoc, mul-left-comm, mul-right-comm, mul-pos, mul-le-mul-right, mul-lt-mul-of-pos-right, le-div-iff-mul-le, div-lt-iff-lt-mul, add-mul, one-mul, pow-suc, eq-of-mul-eq-mul-right}
+use native.Mathlib.Numerals.{add-one-le}
 use native.Mathlib.Omega.{arith}
 use lib.Dec.{T, lit<, isLe, isEq, eqb, leb→le, nleb→lt, eqb→eq, eqb-refl}
 use lib.Arith.{digits-div, digits-mod, lt-of-le-ne}
@@ -19,7 +20,7 @@ use lib.Ieee.Scale.{overflow}
 use Rattle.leaves.specs.Root.{wholeRoot, sticky, rounded}
 use Rattle.leaves.proofs.Squares.{square-lt, square-product}
 use Rattle.leaves.proofs.Packing.{prec-hid}
-use Rattle.leaves.proofs.WholeRoots.{is-root, halves, sticky-cases, sticky-le}
+use Rattle.leaves.proofs.WholeRoots.{below-next, is-root, halves, sticky-cases, sticky-le}
 
 -- ---- what `compare` says
 
@@ -108,10 +109,7 @@ module _ (S p : ℕ) (pos : 0 < p) where
   scaled-reached =
       let r = wholeRoot (S * (p * p)) in
       let R = wholeRoot S in
-      below (R * p) r (square-lt (lt-of-le-of-lt (le-trans (le-of-eq (square-product R p)) (mul-le-mul-right (p * p) (is-root S .reached))) (is-root (S * (p * p)) .past)))
-    where
-      below : (a b : ℕ) → a < b + 1 → a ≤ b
-      below a b h = omega arith
+      below-next (R * p) r (square-lt (lt-of-le-of-lt (le-trans (le-of-eq (square-product R p)) (mul-le-mul-right (p * p) (is-root S .reached))) (is-root (S * (p * p)) .past)))
 
   pub scaled-past : wholeRoot (S * (p * p)) < (wholeRoot S + 1) * p
   scaled-past =
@@ -157,13 +155,10 @@ module _ (f : Format) (S h : ℕ) (lo : 2 ^ prec f ≤ wholeRoot S) (hi : wholeR
   quarter-small =
       let p = 2 ^ h in
       let b = 2 ^ (prec f - 1) in
-      let x : (wholeRoot S + 1) * p ≤ b * 2 * 2 * p = mul-le-mul-right p (next (wholeRoot S) (b * 2 * 2) (subst (λ (z : ℕ). wholeRoot S < z) (pow-suc 2 (prec f) ∙ ap (λ (z : ℕ). z * 2) (prec-hid f)) hi)) in
+      let x : (wholeRoot S + 1) * p ≤ b * 2 * 2 * p = mul-le-mul-right p (add-one-le (subst (λ (z : ℕ). wholeRoot S < z) (pow-suc 2 (prec f) ∙ ap (λ (z : ℕ). z * 2) (prec-hid f)) hi)) in
       let y = scaled-past S p (pow-pos h) in
       let z = sticky-le (S * (p * p)) in
       div-lt-iff-lt-mul (lit< tt) .1 (subst (λ (w : ℕ). halves (S * (p * p)) < w * 4) (sym (pow-suc 2 (prec f - 1 + h) ∙ ap (λ (w : ℕ). w * 2) (pow-add 2 (prec f - 1) h))) (omega (arith, mul-right-comm (b * 2) 2 p, mul-right-comm b 2 p)))
-    where
-      next : (a b : ℕ) → a < b → a + 1 ≤ b
-      next a b h = omega arith
 
   dropped : size (halves (S * (2 ^ h * 2 ^ h)) * 2 ^ low f / 2 ^ (low f + 2)) - prec f ≡ h
   dropped = ap (λ (x : ℕ). size x - prec f) (quarter f (halves (S * (2 ^ h * 2 ^ h)))) ∙ ap (λ (x : ℕ). x - prec f) (size-is (halves (S * (2 ^ h * 2 ^ h)) / 4) (prec f - 1 + h) quarter-reached quarter-small) ∙ less (prec f) (two f)

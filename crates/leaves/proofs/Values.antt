@@ -87,6 +87,13 @@ units-of-value f nan s a h = absurd h
 units-of-value f (inf t) s a h = absurd h
 units-of-value f (fin t m e) s a h = ap (λ (x : ℕ). x / down e) (h .1) ∙ mul-div-cancel a (down-pos e)
 
+-- a zero has none
+pub zero-value : (f : Format) (s : Bool) (e : ℤ) → HasValue (fin s zero e) s 0 (2 ^ low f)
+zero-value f s e = (refl, ap (λ (z : ℕ). z * 2 ^ low f) (zero-mul (up e)) ∙ zero-mul (2 ^ low f) ∙ sym (zero-mul (down e)))
+
+pub zero-units : (f : Format) (s : Bool) (e : ℤ) → unitsIn f (fin s zero e) ≡ 0
+zero-units f s e = units-of-value f (fin s zero e) s 0 (zero-value f s e)
+
 pub own-units : (f : Format) (s : Bool) (m : ℕ) (e : ℤ) → T (fits f (fin s m e)) → HasValue (fin s m e) s (unitsIn f (fin s m e)) (2 ^ low f)
 own-units f s m e h =
     let j = shifted f s m e h in

@@ -47,7 +47,7 @@ pub is-root : (n : ℕ) → IsRoot n (wholeRoot n)
 unfolding wholeRoot
 is-root n = digits-right (size n) n (lt-of-lt-of-le (size-lt n) (two-four (size n)))
 
-below-next : (r s : ℕ) → r < s + 1 → r ≤ s
+pub below-next : (r s : ℕ) → r < s + 1 → r ≤ s
 below-next r s h = omega arith
 
 at-most : (n r s : ℕ) → IsRoot n r → IsRoot n s → r ≤ s

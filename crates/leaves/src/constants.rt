@@ -31,5 +31,6 @@ pub const END_LIMIT: f64 = 1e-5; // 3EE4F8B588E368F1
 // PARALLEL of sketch.rs: `unit` serves a vector that is longer.
 pub const PARALLEL: f64 = 1e-9; // 3E112E0BE826D695
 
-// Vertex fallback: the squared area of a corner is below it where the corner is degenerate.
+// Vertex fallback: a corner is degenerate where the cross product of its two edges, dotted with
+// itself, is below it.
 pub const DEGENERATE_LIMIT: f64 = 1e-18; // 3C32725DD1D243AC
