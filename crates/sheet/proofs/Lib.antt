@@ -1,0 +1,13 @@
+-- Laws about the definitions of `sheet`, by subject. What two functions' proofs need, and what the layers above cite, stands here.
+
+-- bytes and the numbers that they are
+pub mod Bytes
+pub mod Reading
+-- blocks, the rings in them, and the walks over both
+pub mod Blocks
+pub mod Walks
+-- the checks, and what holds of a sheet that passes them
+pub mod Checked
+-- lists in another order, and a sheet's ring blocks in another order
+pub mod Permutations
+pub mod BlockOrder

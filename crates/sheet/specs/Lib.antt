@@ -1,0 +1,4 @@
+pub mod Content
+pub mod Lists
+pub mod Layout
+pub mod Checks
