@@ -1,0 +1,20 @@
+-- Laws about the definitions of `rings`, by subject. What two functions' proofs need, and what the layers above cite, stands here.
+
+-- points in a list of numbers, read and written
+pub mod Pairs
+pub mod Flat
+pub mod InPlace
+-- a ring's points in its block
+pub mod Reading
+-- a ring's points moved, and what holds of them
+pub mod Unrolling
+pub mod Moved
+-- the box, a ring's ends and its joins
+pub mod Axes
+pub mod Ends
+pub mod Seams
+pub mod Opening
+-- folds over a ring's segments: how large a winding can be, the least distance by keys
+pub mod RingFolds
+pub mod Windings
+pub mod Nearest

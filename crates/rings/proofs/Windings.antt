@@ -1,0 +1,98 @@
+-- How large a winding can be. A segment adds 1, 0 or -1, so a ring's winding is at most its count of points in magnitude, and so are its crossings.
+-- `added` is what a sum of i64 asks and gives where the magnitudes together stay below 2 ^ 63.
+use mathlib.Core.Path.{_≡_, refl, ap, _∙_}
+use mathlib.Core.Bool.{Bool, true, false, cond, _&&_, xor}
+use mathlib.Core.List.{List, [], _∷_, foldl}
+use Prim.Native.Nat.{ℕ, suc, _+_, _-_, _^_, _≤_, _<_}
+use native.Mathlib.Omega.{arith}
+use lib.Dec.{ltb}
+use lib.IntN.{ℤ, pos, negsuc, natAbs, subℕ, _+ℤ_}
+use lib.Ieee.{Float, binary64, add, sub, mul, div, lt}
+use lib.ListN.{length}
+use mir.Syntax.{w64}
+use mir.Val.{SFits, toZ, ofZ}
+use mir.ValLaws.{toZ-ofZ}
+use Rattle.sheet.specs.Content.{Point}
+use Rattle.rings.specs.Segments.{Segment, segmentsFrom, segments}
+use Rattle.rings.specs.Turns.{turns}
+use Rattle.rings.specs.Coverage.{gained, middle, step, stepOf, windingOf, insideOf, crossing}
+
+-- ---- sums of whole numbers
+
+cond-small : (c : Bool) (x y : ℤ) (n : ℕ) → natAbs x ≤ n → natAbs y ≤ n → natAbs (cond c x y) ≤ n
+cond-small true x y n h k = h
+cond-small false x y n h k = k
+
+difference-small : (a b : ℕ) → natAbs (subℕ a (suc b)) ≤ a + suc b
+difference-small a b = cond-small (ltb a (suc b)) (negsuc (suc b - suc a)) (pos (a - suc b)) (a + suc b) (omega arith) (omega arith)
+
+pub sum-small : (a b : ℤ) → natAbs (a +ℤ b) ≤ natAbs a + natAbs b
+sum-small (pos a) (pos b) = omega arith
+sum-small (pos a) (negsuc b) = difference-small a b
+sum-small (negsuc a) (pos b) = omega (arith, difference-small b a)
+sum-small (negsuc a) (negsuc b) = omega arith
+
+-- a number of magnitude below 2 ^ 63 is an i64
+pub small-fits : (z : ℤ) → natAbs z < 2 ^ 63 → SFits w64 z
+small-fits (pos n) h = record { sfits = h }
+small-fits (negsuc n) h = record { sfits = omega arith }
+
+-- the machine's sum of the bits w and of a call's result r, which is z: it fits, and it is the sum
+pub record Added (w : ℕ) (r z : ℤ) : Type 0 where
+  pub fits : SFits w64 (toZ w64 w +ℤ toZ w64 (ofZ w64 r))
+  pub is : toZ w64 (ofZ w64 (toZ w64 w +ℤ toZ w64 (ofZ w64 r))) ≡ toZ w64 w +ℤ z
+
+module _ (w : ℕ) (r z : ℤ) (ok : SFits w64 r) (e : r ≡ z) (h : natAbs (toZ w64 w) + natAbs z < 2 ^ 63) where
+  read-back : toZ w64 (ofZ w64 r) ≡ z
+  read-back = toZ-ofZ w64 r ok ∙ e
+
+  sum-fits : SFits w64 (toZ w64 w +ℤ toZ w64 (ofZ w64 r))
+  sum-fits = rw read-back (small-fits (toZ w64 w +ℤ z) (omega (arith, sum-small (toZ w64 w) z)))
+
+  pub added : Added w r z
+  added = record { fits = sum-fits; is = toZ-ofZ w64 (toZ w64 w +ℤ toZ w64 (ofZ w64 r)) sum-fits ∙ ap (λ (y : ℤ). toZ w64 w +ℤ y) read-back }
+
+-- ---- a segment, a ring
+
+one-at-most : (c d : Bool) → natAbs (cond c (cond d (pos 1) (negsuc 0)) (pos 0)) ≤ 1
+one-at-most true true = omega arith
+one-at-most true false = omega arith
+one-at-most false d = omega arith
+
+at-small : (pv au av bu bv w : Float) → natAbs (step pv au av bu bv w) ≤ 1
+unfolding step
+at-small pv au av bu bv w = one-at-most (xor (lt w au) (lt w bu) && lt (add binary64 av (div binary64 (mul binary64 (sub binary64 bv av) (sub binary64 w au)) (sub binary64 bu au))) pv) (lt au bu)
+
+pub step-small : (period : Float) (p : Point) (s : Segment) → natAbs (stepOf period p s) ≤ 1
+unfolding stepOf
+step-small period p s = at-small (p .v) (s .a .u) (s .a .v) (gained period s) (s .b .v) (add binary64 (p .u) (turns (sub binary64 (middle (s .a .u) (gained period s)) (p .u)) period))
+
+module _ (period : Float) (p : Point) where
+  -- the winding with one segment more
+  abbrev pub windStep : ℤ → Segment → ℤ
+  windStep n s = n +ℤ stepOf period p s
+
+  fold-small : (n : ℤ) (ss : List Segment) → natAbs (foldl windStep n ss) ≤ natAbs n + length ss
+  fold-small n [] = omega arith
+  fold-small n (s ∷ ss) = omega (arith, fold-small (windStep n s) ss, sum-small n (stepOf period p s), step-small period p s)
+
+segments-from-count : (first a : Point) (ps : List Point) → length (segmentsFrom first a ps) ≡ suc (length ps)
+unfolding segmentsFrom
+segments-from-count first a [] = refl
+segments-from-count first a (b ∷ ps) = rw (segments-from-count first b ps)
+
+-- as many segments as points
+pub segments-count : (ring : List Point) → length (segments ring) ≡ length ring
+unfolding segments
+segments-count [] = refl
+segments-count (p ∷ ps) = segments-from-count p p ps
+
+pub winding-small : (period : Float) (p : Point) (ring : List Point) → natAbs (windingOf period p ring) ≤ length ring
+unfolding windingOf
+winding-small period p ring = omega (arith, fold-small period p (pos 0) (segments ring), segments-count ring)
+
+pub crossing-small : (periodic : Bool) (period : Float) (p : Point) (ring : List Point) → natAbs (crossing periodic period p ring) ≤ length ring
+unfolding crossing insideOf
+crossing-small true period p ring = winding-small period p ring
+crossing-small false period p [] = omega arith
+crossing-small false period p (a ∷ ring) = cond-small (insideOf (a ∷ ring) p) (pos 1) (pos 0) (suc (length ring)) (omega arith) (omega arith)

@@ -1,0 +1,36 @@
+-- Document 01, "Chart", rule 3, what it asks of points: "Box: least and greatest u and v", and of a ring: "first and last u differ by over PI".
+use mathlib.Core.Bool.{Bool, true, false, cond, _||_}
+use mathlib.Core.List.{List, [], _∷_, foldl}
+use Prim.Native.Nat.{ℕ}
+use lib.Dec.{eqb}
+use lib.Ieee.{Float, inf, binary64, sub, neg, lt}
+use Rattle.leaves.specs.Bounds.{smallerOf, largerOf}
+use Rattle.leaves.specs.Constants.{pi}
+use Rattle.sheet.specs.Content.{Point}
+
+unfoldable pub least : List Float → Float
+unfolding smallerOf
+least xs = foldl smallerOf (inf false) xs
+
+unfoldable pub greatest : List Float → Float
+unfolding largerOf
+greatest xs = foldl largerOf (inf true) xs
+
+-- a point's u at axis 0, its v at any other
+unfoldable pub axisOf : ℕ → Point → Float
+axisOf axis p = cond (eqb axis 0) (p .u) (p .v)
+
+-- the last of a point and those after it
+unfoldable pub lastOf : Point → List Point → Point
+lastOf p [] = p
+lastOf p (q ∷ qs) = lastOf q qs
+
+-- of magnitude over PI
+unfoldable pub overPi : Float → Bool
+unfolding lt neg
+overPi d = lt pi d || lt pi (neg d)
+
+unfoldable pub goesAround : List Point → Bool
+unfolding overPi lastOf sub
+goesAround [] = false
+goesAround (p ∷ ps) = overPi (sub binary64 (p .u) (lastOf p ps .u))

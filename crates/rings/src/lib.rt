@@ -1,0 +1,21 @@
+// One ring: read from its block, moved (rules 1 and 2), measured (rules 3 and 4), normalised (rule 5),
+// and held against a grid point (rules 7 and 8). A ring's points stand in a slice of f64 as u, v of the
+// first, u, v of the next, and so on; a last number that is no point's is passed over.
+
+mod bounds;
+mod clearance;
+mod coverage;
+mod joins;
+mod points;
+mod turns;
+
+pub use bounds::goes_around;
+pub use bounds::greatest;
+pub use bounds::least;
+pub use clearance::nearer;
+pub use coverage::inside;
+pub use coverage::periodic_winding;
+pub use joins::is_open;
+pub use points::normalise;
+pub use points::read;
+pub use points::unroll;
