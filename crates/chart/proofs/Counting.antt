@@ -1,0 +1,71 @@
+-- How many points a sheet's rings have: seventeen a coedge, as many when they are moved, and two numbers each.
+use mathlib.Core.Path.{_≡_, refl, sym, ap, _∙_}
+use mathlib.Core.List.{List, [], _∷_, map, flatten, foldl, map-map}
+use Prim.Native.Nat.{ℕ, _+_, _*_, _-_, _/_, _≤_, _<_}
+use native.Mathlib.Nat.{add-assoc, zero-add, add-zero}
+use native.Mathlib.Omega.{arith}
+use lib.Ieee.{Float}
+use lib.ListN.{length, getD, take, drop, length-append, length-map}
+use Rattle.sheet.specs.Content.{Coedge, ringPoints, flat, pairs}
+use Rattle.sheet.specs.Layout.{blockSize, ring, cut, blocks, headSize, kind, ringCount, sheetOf}
+use Rattle.sheet.specs.Checks.{coedgeTotal}
+use Rattle.sheet.proofs.Blocks.{ring-length, ring-points-length, first-byte}
+use Rattle.sheet.proofs.Walks.{cut-step, cut-end}
+use Rattle.rings.proofs.Flat.{flat-append, length-flat, length-pairs}
+use Rattle.rings.proofs.Moved.{length-moved}
+use Rattle.chart.specs.Chart.{pointCount, writtenPoint}
+use Rattle.chart.specs.Stages.{movedBlock, movedBlocks}
+
+-- ---- sums
+
+abbrev pub sumOf : {A : Type 0} → (A → ℕ) → ℕ → List A → ℕ
+sumOf {A} part n xs = foldl (λ (m : ℕ) (x : A). m + part x) n xs
+
+pub sum-from : {A : Type 0} (part : A → ℕ) (n : ℕ) (xs : List A) → sumOf part n xs ≡ n + sumOf part 0 xs
+sum-from part n [] = sym (add-zero n)
+sum-from part n (x ∷ xs) = sum-from part (n + part x) xs ∙ add-assoc n (part x) (sumOf part 0 xs) ∙ ap (λ (m : ℕ). n + m) (sym (ap (λ (m : ℕ). sumOf part m xs) (zero-add (part x)) ∙ sum-from part (part x) xs))
+
+-- ---- the points of blocks
+
+abbrev pub pointsIn : List (List ℕ) → ℕ
+pointsIn bs = sumOf (λ (r : List Coedge). length (ringPoints r)) 0 (map ring bs)
+
+pub points-cons : (b : List ℕ) (bs : List (List ℕ)) → pointsIn (b ∷ bs) ≡ 17 * getD b 0 0 + pointsIn bs
+points-cons b bs =
+    ap (λ (m : ℕ). sumOf (λ (r : List Coedge). length (ringPoints r)) m (map ring bs)) (zero-add (length (ringPoints (ring b))))
+    ∙ sum-from (λ (r : List Coedge). length (ringPoints r)) (length (ringPoints (ring b))) (map ring bs)
+    ∙ ap (λ (m : ℕ). m + pointsIn bs) (ring-points-length b)
+
+pub points-by-coedges : (bs : List (List ℕ)) → pointsIn bs ≡ 17 * coedgeTotal (map ring bs)
+unfolding coedgeTotal
+points-by-coedges [] = refl
+points-by-coedges (b ∷ bs) =
+    let n = sum-from (λ (r : List Coedge). length r) (0 + length (ring b)) (map ring bs) in
+    rw (n, ring-length b) (omega (arith, points-cons b bs, points-by-coedges bs))
+
+-- the points from the block at a place on
+pub points-step : (s : List ℕ) (at n k : ℕ) → k < n → pointsIn (cut (n - k) (drop at s)) ≡ 17 * getD (drop at s) 0 0 + pointsIn (cut (n - (k + 1)) (drop (at + blockSize (drop at s)) s))
+points-step s at n k more =
+    let b = drop at s in
+    ap pointsIn (cut-step s at n k more) ∙ points-cons (take (blockSize b) b) (cut (n - (k + 1)) (drop (at + blockSize b) s)) ∙ ap (λ (m : ℕ). 17 * m + pointsIn (cut (n - (k + 1)) (drop (at + blockSize b) s))) (first-byte b)
+
+pub points-end : (s : List ℕ) (n k : ℕ) → n ≤ k → pointsIn (cut (n - k) s) ≡ 0
+points-end s n k h = ap pointsIn (cut-end s n k h)
+
+pub count-of-blocks : (s : List ℕ) → pointCount (sheetOf s) ≡ pointsIn (cut (ringCount s) (drop (headSize (kind s)) s))
+unfolding pointCount sheetOf blocks
+count-of-blocks s = refl
+
+-- ---- the numbers of the moved rings
+
+pub moved-numbers : (kind phase : ℕ) (bs : List (List ℕ)) → length (flat (flatten (map (movedBlock kind phase) bs))) ≡ 2 * pointsIn bs
+unfolding movedBlock flatten flat
+moved-numbers kind phase [] = refl
+moved-numbers kind phase (b ∷ bs) =
+    rw (flat-append (movedBlock kind phase b) (flatten (map (movedBlock kind phase) bs)))
+    (simp (length-append, length-flat, length-moved) (omega (arith, ring-points-length b, points-cons b bs, moved-numbers kind phase bs, length-flat (flatten (map (movedBlock kind phase) bs)))))
+
+-- ---- the numbers to be written
+
+pub written-room : (phase : ℕ) (xs : List Float) → length (flat (map (writtenPoint phase) (pairs xs))) ≡ 2 * (length xs / 2)
+written-room phase xs = simp (length-flat, length-map, length-pairs)

@@ -1,0 +1,106 @@
+-- The search along the grid, one grid point after the other: what is left of a column from j on, and of the grid from i on; that a grid point passes the candidate on, counted where it is covered;
+-- and that a clearance may be given as the larger of itself and the candidate's.
+use mathlib.Core.Path.{_≡_, refl}
+use mathlib.Core.Bool.{Bool, true, false}
+use mathlib.Core.List.{List, foldl}
+use Prim.Native.Nat.{ℕ, _+_, _-_, _<_, _≤_}
+use native.Mathlib.Omega.{arith}
+use lib.Dec.{T}
+use lib.Ieee.{Float, lt}
+use Rattle.leaves.specs.Bounds.{largerOf}
+use Rattle.leaves.proofs.Order.{lt-irrefl}
+use Rattle.sheet.specs.Content.{Point}
+use Rattle.chart.specs.Chart.{covered, clearance, candidate}
+use Rattle.chart.specs.Grid.{upFrom, lines, gridPoint}
+use Rattle.chart.specs.Search.{start, better, counted, visit, column, search}
+use Rattle.chart.specs.declared.candidate.Candidate.{Candidate}
+use Rattle.chart.specs.declared.frame.Frame.{Frame}
+use Rattle.chart.proofs.Lines.{up-step, up-end}
+
+-- ---- the larger of two clearances
+
+not-so : (t : Bool) → (T t → ⊥) → t ≡ false
+not-so true h = absurd (h tt)
+not-so false h = refl
+
+not-less : (x : Float) → lt x x ≡ false
+not-less x = not-so (lt x x) (lt-irrefl x)
+
+module _ (i j : ℕ) (x : Float) (best : Candidate) where
+  by-test : (t : Bool) → lt (best .clearance) x ≡ t → better i j (largerOf (best .clearance) x) best ≡ better i j x best
+  unfolding better largerOf
+  by-test true e = rw (e, e)
+  by-test false e = rw (e, not-less (best .clearance))
+
+  pub better-larger : better i j (largerOf (best .clearance) x) best ≡ better i j x best
+  better-larger = by-test (lt (best .clearance) x) refl
+
+  count-by-test : (t : Bool) → lt (best .clearance) x ≡ t → better i j x best .count ≡ best .count
+  unfolding better
+  count-by-test true e = rw e
+  count-by-test false e = rw e
+
+  better-count : better i j x best .count ≡ best .count
+  better-count = count-by-test (lt (best .clearance) x) refl
+
+-- ---- a grid point
+
+module _ (covers : ℕ → ℕ → Bool) (clears : ℕ → ℕ → Float) where
+  module _ (i j : ℕ) (best : Candidate) where
+    pub visit-covered : covers i j ≡ true → visit covers clears i best j ≡ counted (better i j (clears i j) best)
+    unfolding visit
+    visit-covered e = rw e
+
+    pub visit-passed : covers i j ≡ false → visit covers clears i best j ≡ best
+    unfolding visit
+    visit-passed e = rw e
+
+    visited-by-test : (t : Bool) → covers i j ≡ t → visit covers clears i best j .count ≤ best .count + 1
+    unfolding counted
+    visited-by-test true e = rw (visit-covered e) (omega (arith, better-count i j (clears i j) best))
+    visited-by-test false e = rw (visit-passed e) (omega arith)
+
+    pub visit-count : visit covers clears i best j .count ≤ best .count + 1
+    visit-count = visited-by-test (covers i j) refl
+
+  -- ---- the rest of a column, and of the grid
+
+  -- the column i from j on
+  abbrev pub columnFrom : ℕ → Candidate → ℕ → Candidate
+  columnFrom i best j = foldl (visit covers clears i) best (upFrom j (32 - j))
+
+  pub column-start : (i : ℕ) (best : Candidate) → columnFrom i best 1 ≡ column covers clears best i
+  unfolding column lines
+  column-start i best = refl
+
+  pub column-step : (i : ℕ) (best : Candidate) (j : ℕ) → j < 32 → columnFrom i best j ≡ columnFrom i (visit covers clears i best j) (j + 1)
+  column-step i best j h = rw (up-step j 32 h)
+
+  pub column-end : (i : ℕ) (best : Candidate) (j : ℕ) → 32 ≤ j → columnFrom i best j ≡ best
+  column-end i best j h = rw (up-end j 32 h)
+
+  -- the grid from i on
+  abbrev pub searchFrom : Candidate → ℕ → Candidate
+  searchFrom best i = foldl (column covers clears) best (upFrom i (32 - i))
+
+  search-start : searchFrom start 1 ≡ search covers clears
+  unfolding search lines
+  search-start = refl
+
+  pub search-step : (best : Candidate) (i : ℕ) → i < 32 → searchFrom best i ≡ searchFrom (column covers clears best i) (i + 1)
+  search-step best i h = rw (up-step i 32 h)
+
+  pub search-end : (best : Candidate) (i : ℕ) → 32 ≤ i → searchFrom best i ≡ best
+  search-end best i h = rw (up-end i 32 h)
+
+-- ---- the chart's coverage and clearance
+
+abbrev pub cover : Frame → ℕ → List (List Point) → ℕ → ℕ → Bool
+cover f sense rings i j = covered f sense rings (gridPoint i j)
+
+abbrev pub clear : Frame → List (List Point) → ℕ → ℕ → Float
+clear f rings i j = clearance f rings (gridPoint i j)
+
+pub candidate-start : (f : Frame) (sense : ℕ) (rings : List (List Point)) → searchFrom (cover f sense rings) (clear f rings) start 1 ≡ candidate f sense rings
+unfolding candidate
+candidate-start f sense rings = search-start (cover f sense rings) (clear f rings)

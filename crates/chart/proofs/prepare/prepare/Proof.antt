@@ -1,0 +1,143 @@
+-- `chart::prepare::prepare` meets its contract. The invariant: the rings of the blocks before `at` are moved and noted, and those left fill the rest of the list.
+use Rattle.chart.proofs.Preparing.{Prepared, none-prepared, block-within, part-within, ring-room, same-size, ring-prepared, all-moved, all-parted}
+use native.Mathlib.Omega.{arith}
+use borrow.Author.Needs.{needs}
+use Rattle.chart.specs.Stages.{movedBlocks}
+use lib.ListN.{length, drop}
+use mathlib.Core.Path.{_≡_, refl, sym, ap, _∙_}
+use Prim.Native.Nat.{_+_, _*_, _-_, _≤_, _<_}
+use Rattle.chart.proofs.prepare.prepare.Statement.{statement}
+use Rattle.chart.proofs.prepare.prepare.Tie as tie
+
+abbrev Inv-loop : tie.InvT-loop
+Inv-loop kind phase s start points₀ ends₀ at₀ from₀ k₀ points ends at from k = (k ≤ length ends₀) × (length points ≡ length points₀) × Prepared kind phase s (length ends₀) (movedBlocks kind phase (length ends₀) (drop start s)) points ends at from k
+
+abbrev μ-loop : tie.MeasureT-loop
+μ-loop kind phase s start points₀ ends₀ at₀ from₀ k₀ points ends at from k = length ends₀ - k
+
+loop-holds : tie.Need-loop-holds Inv-loop μ-loop
+loop-holds c =
+    let a = c .before .before .before in
+    (omega arith, refl, none-prepared (a .args .kind) (a .args .phase) (a .args .s .now) (a .args .start) (a .args .points .now) (a .args .ends .now) (a .pre .0) (a .pre .1) (a .pre .2))
+
+block-size-requires : tie.Need-block-size-requires Inv-loop μ-loop
+block-size-requires c κs = search needs
+
+-- another ring is left
+more : (c : tie.In-loop Inv-loop μ-loop) → c .before .loop .k < length (c .before .before .before .before .before .args .ends .now)
+more c = omega (arith, c .loop-test .taken, c .before .loop .inv .2 .count)
+
+-- its block is a part of the sheet
+inside : (c : tie.After-block-size Inv-loop μ-loop) → c .before .before .loop .at + c .block-size .result ≤ length (c .before .before .before .before .before .before .args .s .now)
+inside c = omega (arith, block-within (c .before .before .loop .inv .2) (more (c .before)), c .block-size .ensures)
+
+-- and its points have room in the list
+room : (c : tie.After-byte-at Inv-loop μ-loop) → c .before .before .before .loop .from + 34 * c .byte-at .result ≤ length (c .before .before .before .loop .points)
+room c = omega (arith, part-within (c .before .before .before .loop .inv .2) (more (c .before .before)), c .byte-at .ensures)
+
+add-end : tie.Need-add-end Inv-loop μ-loop
+add-end c = omega (arith, inside c)
+
+byte-at-requires : tie.Need-byte-at-requires Inv-loop μ-loop
+byte-at-requires c κs = search needs
+
+cast-to : tie.Need-cast-to Inv-loop μ-loop
+cast-to c = omega arith
+
+mul-to : tie.Need-mul-to Inv-loop μ-loop
+mul-to c = omega arith
+
+add-to : tie.Need-add-to Inv-loop μ-loop
+add-to c = omega arith
+
+sub-move-ring : tie.Need-sub-move-ring Inv-loop μ-loop
+sub-move-ring c = omega arith
+
+part-move-ring-start : tie.Need-part-move-ring-start Inv-loop μ-loop
+part-move-ring-start c = omega arith
+
+part-move-ring-end : tie.Need-part-move-ring-end Inv-loop μ-loop
+part-move-ring-end c = inside (c .before)
+
+mul-move-ring : tie.Need-mul-move-ring Inv-loop μ-loop
+mul-move-ring c = omega arith
+
+sub-move-ring-2 : tie.Need-sub-move-ring-2 Inv-loop μ-loop
+sub-move-ring-2 c = omega arith
+
+part-move-ring-start-2 : tie.Need-part-move-ring-start-2 Inv-loop μ-loop
+part-move-ring-start-2 c = omega arith
+
+part-move-ring-end-2 : tie.Need-part-move-ring-end-2 Inv-loop μ-loop
+part-move-ring-end-2 c = room (c .before)
+
+move-ring-requires : tie.Need-move-ring-requires Inv-loop μ-loop
+move-ring-requires c κs =
+    let b = c .before .before in
+    ring-room (b .before .before .before .loop .inv .2) (more (b .before .before)) (b .before .block-size .result) (b .byte-at .result) (b .before .block-size .ensures) (b .byte-at .ensures)
+
+mul-ends : tie.Need-mul-ends Inv-loop μ-loop
+mul-ends c = omega arith
+
+slice-write-ends : tie.Need-slice-write-ends Inv-loop μ-loop
+slice-write-ends c = omega arith
+
+add-k : tie.Need-add-k Inv-loop μ-loop
+add-k c = omega arith
+
+loop-less : tie.Need-loop-less Inv-loop μ-loop
+loop-less c = omega arith
+
+loop-again : tie.Need-loop-again Inv-loop μ-loop
+loop-again c =
+    let b = c .before .before .before .before .before in
+    let p = b .before .before .before .loop .inv .2 in
+    let size = b .before .block-size in
+    let byte = b .byte-at in
+    let m = c .before .before .move-ring .ensures in (
+      omega (arith, more (b .before .before)),
+      same-size p (more (b .before .before)) (size .result) (byte .result) _ (size .ensures) (byte .ensures) m ∙ b .before .before .before .loop .inv .1,
+      ring-prepared p (more (b .before .before)) (size .result) (byte .result) _ (size .ensures) (byte .ensures) m,
+    )
+
+same-length : tie.Need-same-length Inv-loop μ-loop
+same-length c = omega arith
+
+same-length-2 : tie.Need-same-length-2 Inv-loop μ-loop
+same-length-2 c = c .before .loop .inv .2 .count
+
+returns : tie.Need-returns Inv-loop μ-loop
+returns c =
+    let p = c .before .loop .inv .2 in
+    let none : length (c .before .before .before .before .before .args .ends .now) ≤ c .before .loop .k = omega (arith, c .loop-test .left, p .count) in
+    (all-moved p none, all-parted p none)
+
+pub prepare-spec : {M : Type 1} → statement M
+prepare-spec =
+    tie.close
+    (tie.spec
+    Inv-loop
+    μ-loop
+    loop-holds
+    block-size-requires
+    add-end
+    byte-at-requires
+    cast-to
+    mul-to
+    add-to
+    sub-move-ring
+    part-move-ring-start
+    part-move-ring-end
+    mul-move-ring
+    sub-move-ring-2
+    part-move-ring-start-2
+    part-move-ring-end-2
+    move-ring-requires
+    mul-ends
+    slice-write-ends
+    add-k
+    loop-less
+    loop-again
+    same-length
+    same-length-2
+    returns)

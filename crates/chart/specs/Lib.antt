@@ -1,0 +1,9 @@
+pub mod Answer
+pub mod Frame
+pub mod Grid
+pub mod Search
+pub mod Chart
+pub mod Parts
+pub mod Stages
+pub mod Demand
+pub mod Plates
