@@ -6,8 +6,9 @@ use crate::original::{Run, RECORDED};
 use crate::recorder::Stage;
 use crate::sheet::PLANE;
 
-/// Stands in the output list before the chart writes, and in its tail after.
-const UNWRITTEN: f64 = 12345.0;
+/// Stands in the output list before the chart writes, and in its tail after:
+/// bits 40C81C8000000000.
+pub const UNWRITTEN: f64 = 12345.0;
 /// The output list is longer than asked by this much.
 const TAIL: usize = 3;
 
@@ -26,7 +27,7 @@ fn compare(case: &Case, run: &Run, model: Model) -> Result<(), String> {
     let points = case.sheet.point_count();
     let mut output = vec![UNWRITTEN; 2 * points + TAIL];
     let chart = model.chart(&sheet, case.phase, &mut output);
-    compare_chart(&chart, &output, run)?;
+    compare_chart(&chart, &output, 2 * points, run)?;
 
     if run.record.stage != Stage::Evaluating {
         let images = images(case, &chart, &output[..2 * points]);
@@ -42,7 +43,13 @@ fn compare(case: &Case, run: &Run, model: Model) -> Result<(), String> {
 
 /// The chart against the recorded evaluations: first the candidate's u and v,
 /// then the moved points. Evaluation may have failed before the last of them.
-fn compare_chart(chart: &Answer, output: &[f64], run: &Run) -> Result<(), String> {
+/// `used` places of the output are the points', the rest is its tail.
+pub(crate) fn compare_chart(
+    chart: &Answer,
+    output: &[f64],
+    used: usize,
+    run: &Run,
+) -> Result<(), String> {
     let Answer::Point {
         x,
         y,
@@ -51,9 +58,7 @@ fn compare_chart(chart: &Answer, output: &[f64], run: &Run) -> Result<(), String
         count,
     } = *chart
     else {
-        expect(output.iter().all(|x| *x == UNWRITTEN), || {
-            "output written".into()
-        })?;
+        expect(unwritten(output), || "output written".into())?;
         return compare_refusal("chart", chart, run);
     };
     let Some((candidate, boundary)) = run.calls.split_first() else {
@@ -64,14 +69,14 @@ fn compare_chart(chart: &Answer, output: &[f64], run: &Run) -> Result<(), String
     };
     expect_bits("candidate", &[x, y, z], &[candidate[0], candidate[1], 0.0])?;
     compare_grid("chart", clearance, count, run)?;
-    let (written, tail) = output.split_at(output.len() - TAIL);
+    let (written, tail) = output.split_at(used);
     let boundary: Vec<f64> = boundary.iter().flatten().copied().collect();
     let complete = run.record.stage != Stage::Evaluating;
     expect(!complete || boundary.len() == written.len(), || {
         format!("{} written, {} evaluated", written.len(), boundary.len())
     })?;
     expect_bits("written points", &written[..boundary.len()], &boundary)?;
-    expect_bits("tail", tail, &[UNWRITTEN; TAIL])
+    expect(unwritten(tail), || "tail written".into())
 }
 
 fn compare_pick(call: &str, pick: &Answer, run: &Run) -> Result<(), String> {
@@ -126,6 +131,11 @@ fn images(case: &Case, chart: &Answer, written: &[f64]) -> Vec<f64> {
 /// Where evaluation fails the original's run ends; this number is not compared.
 fn image(case: &Case, u: f64, v: f64) -> [f64; 3] {
     case.surface.point(u, v).unwrap_or([0.0; 3])
+}
+
+/// Whether a part of the output still holds what stood there before the call.
+pub(crate) fn unwritten(part: &[f64]) -> bool {
+    part.iter().all(|x| x.to_bits() == UNWRITTEN.to_bits())
 }
 
 fn expect(holds: bool, message: impl FnOnce() -> String) -> Result<(), String> {

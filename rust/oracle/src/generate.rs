@@ -1,11 +1,13 @@
 //! Seedable sheets: every kind, sense and phase, and the places where an easy
 //! reading of document 01 goes wrong. The same seed gives the same case.
 
+mod calls;
 mod damage;
 mod families;
 mod shapes;
 mod thresholds;
 
+pub use calls::{chart_calls, damaged_calls, reordered, ChartCall};
 pub use damage::{damaged, Call, Damaged};
 pub use shapes::largest;
 

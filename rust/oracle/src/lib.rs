@@ -5,16 +5,21 @@
 extern crate self as cadmpeg_ir;
 extern crate self as serde_json;
 
+mod big_endian;
+pub mod chart_call;
 pub mod compare;
 pub mod generate;
 pub mod model;
 pub mod original;
+pub mod plates;
 pub mod recorder;
+pub mod replay;
 pub mod rng;
 pub mod sheet;
 mod shims;
 mod stand_in;
 pub mod surface;
+pub mod tally;
 pub mod vectors;
 
 #[cfg(facepoint_archive)]

@@ -1,5 +1,7 @@
 //! The builder of sheets: document 01's "Sheet (added)", from a face's trims to
-//! bytes. It writes whatever it is given; the checks are the reader's.
+//! bytes and back. It writes whatever it is given; the checks are the reader's.
+
+use crate::big_endian::take;
 
 /// Points of a coedge.
 pub const SAMPLES: usize = 17;
@@ -68,6 +70,15 @@ impl Coedge {
             points,
         }
     }
+
+    fn read(rest: &mut &[u8]) -> Option<Coedge> {
+        let [deviation] = numbers(rest)?;
+        let mut points = [[0.0; 2]; SAMPLES];
+        for point in &mut points {
+            *point = numbers(rest)?;
+        }
+        Some(Coedge { deviation, points })
+    }
 }
 
 /// A closed chain of coedges.
@@ -92,8 +103,24 @@ impl Ring {
         Ring((0..coedges).map(coedge).collect())
     }
 
+    /// A square around `centre` in so many coedges, from its lower left corner.
+    pub fn square(coedges: usize, centre: Uv, half: f64) -> Ring {
+        Ring::curve(coedges, |part| {
+            let way = 4.0 * part.fract();
+            let x = 2.0 * way.fract() - 1.0;
+            let [u, v] = [[x, -1.0], [1.0, x], [-x, 1.0], [-1.0, -x]][way as usize];
+            [centre[0] + half * u, centre[1] + half * v]
+        })
+    }
+
     pub fn rectangle(low: Uv, high: Uv) -> Ring {
         Ring::polygon(&[low, [high[0], low[1]], high, [low[0], high[1]]])
+    }
+
+    fn read(rest: &mut &[u8]) -> Option<Ring> {
+        let [coedges] = take(rest)?;
+        let coedges = (0..coedges).map(|_| Coedge::read(rest));
+        coedges.collect::<Option<_>>().map(Ring)
     }
 
     /// The same trim walked the other way.
@@ -160,6 +187,25 @@ impl Sheet {
         8 + plane + before.sum::<usize>()
     }
 
+    /// The sheet that writes these bytes, if there is one: the layout reads. Codes
+    /// and numbers are taken as they are.
+    pub fn read(bytes: &[u8]) -> Option<Sheet> {
+        let mut rest = bytes;
+        let [.., kind, sense, rings] = take::<8>(&mut rest)?;
+        let mut sheet = Sheet::new(kind, sense, Vec::new());
+        if kind == PLANE {
+            sheet.plane = Plane {
+                origin: numbers(&mut rest)?,
+                u_axis: numbers(&mut rest)?,
+                normal: numbers(&mut rest)?,
+            };
+        }
+        for _ in 0..rings {
+            sheet.rings.push(Ring::read(&mut rest)?);
+        }
+        (sheet.bytes() == bytes).then_some(sheet)
+    }
+
     pub fn bytes(&self) -> Vec<u8> {
         let mut bytes = vec![0; 4];
         bytes.extend([1, self.kind, self.sense, self.rings.len() as u8]);
@@ -182,6 +228,14 @@ impl Sheet {
         set_length(&mut bytes);
         bytes
     }
+}
+
+fn numbers<const N: usize>(rest: &mut &[u8]) -> Option<[f64; N]> {
+    let mut numbers = [0.0; N];
+    for number in &mut numbers {
+        *number = f64::from_be_bytes(take(rest)?);
+    }
+    Some(numbers)
 }
 
 /// Makes the length field say how many bytes follow it.

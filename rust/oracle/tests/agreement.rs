@@ -2,9 +2,7 @@
 //! the same chart, clearance, count and refusal number. The last three come from
 //! the recorded copy, whose every run is the unrecorded copy's.
 
-use std::collections::BTreeMap;
 use std::f64::consts::PI;
-use std::thread;
 
 use oracle::compare::{difference, original_run};
 use oracle::generate::{case, largest, Case};
@@ -13,48 +11,9 @@ use oracle::original::{Run, STAND_IN};
 use oracle::recorder::Stage;
 use oracle::sheet::{Sheet, SAMPLES, TORUS};
 use oracle::surface::Surface;
+use oracle::tally::{over_seeds, Tally};
 
 const SHEETS: u64 = 20_800;
-const THREADS: u64 = 2;
-
-/// How often each thing came up.
-#[derive(Default)]
-struct Tally(BTreeMap<String, usize>);
-
-impl Tally {
-    fn add(&mut self, what: String) {
-        *self.0.entry(what).or_default() += 1;
-    }
-
-    fn merge(&mut self, other: Tally) {
-        for (what, count) in other.0 {
-            *self.0.entry(what).or_default() += count;
-        }
-    }
-
-    fn of(&self, what: &str) -> usize {
-        self.0.get(what).copied().unwrap_or(0)
-    }
-}
-
-/// Runs `work` on every seed, on both cores.
-fn over_seeds(seeds: u64, work: fn(u64, &mut Tally)) -> Tally {
-    let part = move |first: u64| {
-        let mut tally = Tally::default();
-        (first..seeds)
-            .step_by(THREADS as usize)
-            .for_each(|seed| work(seed, &mut tally));
-        tally
-    };
-    let workers: Vec<_> = (0..THREADS)
-        .map(|n| thread::spawn(move || part(n)))
-        .collect();
-    let mut tally = Tally::default();
-    for worker in workers {
-        tally.merge(worker.join().expect("a worker ends"));
-    }
-    tally
-}
 
 fn answered_as(kind: u8, sense: u8, phase: u32) -> String {
     format!("answered: kind {kind}, sense {sense}, phase {phase}")
@@ -108,9 +67,7 @@ fn goes_around(case: &Case, run: &Run) -> bool {
 #[test]
 fn model_and_original_agree() {
     let tally = over_seeds(SHEETS, compare_seed);
-    for (what, count) in &tally.0 {
-        println!("{count:6}  {what}");
-    }
+    tally.print();
     assert!(10 * tally.of("answered") >= 4 * SHEETS as usize);
     assert!(tally.of("evaluation failed") >= 100);
     for number in 11..=15 {

@@ -1,32 +1,21 @@
 //! The plates of document 01, its bad cuts and examples beside them, on the
-//! model and on the original.
+//! model and on the original; and the committed file of plates.
 
-use std::f64::consts::{PI, TAU};
+use std::collections::BTreeSet;
+use std::f64::consts::PI;
+use std::fs;
+use std::path::Path;
 
 use oracle::compare::{difference, original_run};
 use oracle::generate::Case;
 use oracle::model::{Answer, Fault, Model, MODEL};
 use oracle::original::STAND_IN;
+use oracle::plates::{
+    band, inner_band, plate_a, plate_a_ending_at, plate_b, plate_c, plates, plates_file, two_holes,
+    Plate,
+};
 use oracle::sheet::{Ring, Sheet, Uv, ABSENT, CYLINDER, FORWARD, PLANE, REVERSED, SPHERE, TORUS};
 use oracle::surface::Surface;
-
-fn square(low: f64, high: f64) -> Ring {
-    Ring::rectangle([low, low], [high, high])
-}
-
-fn plate_a() -> Sheet {
-    Sheet::flat(vec![square(0.0, 1.0)])
-}
-
-/// Once around at `v`, from u = 0.
-fn around(v: f64) -> Ring {
-    Ring::curve(1, |part| [TAU * part, v])
-}
-
-/// Two rings around, the upper one reversed.
-fn band(kind: u8, sense: u8, low: f64, high: f64) -> Sheet {
-    Sheet::new(kind, sense, vec![around(low), around(high).reversed()])
-}
 
 /// The sheet on a surface of its kind.
 fn case(sheet: &Sheet, phase: u32) -> Case {
@@ -113,30 +102,25 @@ fn plate_a_is_answered_as_the_program_prints_it() {
 
 #[test]
 fn plate_a_with_its_last_point_off() {
-    let ending_at = |v: f64| {
-        let mut sheet = plate_a();
-        sheet.rings[0].0[3].points[16] = [0.0, v];
-        chart(&sheet, 0).numbers()
-    };
+    let ending_at = |v: f64| chart(&plate_a_ending_at([0.0, v]), 0).numbers();
     assert_eq!(ending_at(2.0f64.powi(-13)), refused(13));
     assert_eq!(ending_at(2.0f64.powi(-14)).0, 0);
 }
 
 #[test]
 fn plate_b_in_either_order() {
-    let mut rings = vec![square(0.0, 1.0), square(0.25, 0.75)];
+    let mut sheet = plate_b();
     let expected = point(0.15625, 0.15625, (18.0f64 / 1024.0).sqrt(), 705);
     for _ in 0..2 {
-        let sheet = Sheet::flat(rings.clone());
         assert_eq!(chart(&sheet, 0).numbers(), expected);
         assert_eq!(MODEL.plane_pick(&sheet.bytes()).numbers(), expected);
-        rings.reverse();
+        sheet.rings.reverse();
     }
 }
 
 #[test]
 fn plate_c_leaves_no_clear_point() {
-    let sheet = Sheet::flat(vec![square(0.0, 1.0), square(1.0 / 64.0, 63.0 / 64.0)]);
+    let sheet = plate_c();
     assert_eq!(chart(&sheet, 0).numbers(), refused(14));
     assert_eq!(MODEL.plane_pick(&sheet.bytes()).numbers(), refused(14));
 }
@@ -151,20 +135,13 @@ fn cut(sheet: &Sheet, expected: (u32, [u64; 5]), fault: Fault) -> (u32, [u64; 5]
 
 #[test]
 fn bad_cuts_on_a_plane() {
-    let holes = vec![
-        square(0.0, 1.0),
-        square(1.0 / 16.0, 7.0 / 16.0),
-        square(9.0 / 16.0, 15.0 / 16.0),
-    ];
-    let diagonal = Sheet::flat(holes);
     cut(
-        &diagonal,
+        &two_holes(),
         point(0.28125, 0.71875, 0.28125, 673),
         Fault::VOuterLoop,
     );
-    let plate_b = Sheet::flat(vec![square(0.0, 1.0), square(0.25, 0.75)]);
     let expected = point(0.15625, 0.15625, (18.0f64 / 1024.0).sqrt(), 705);
-    cut(&plate_b, expected, Fault::LastOfEqualClearances);
+    cut(&plate_b(), expected, Fault::LastOfEqualClearances);
 }
 
 #[test]
@@ -214,7 +191,7 @@ fn torus_bands_by_sense_and_height() {
 
 #[test]
 fn inner_torus_band_needs_phase_1() {
-    let sheet = band(TORUS, FORWARD, 2.8, -2.8);
+    let sheet = inner_band();
     assert_eq!(chart(&sheet, 0).numbers(), refused(11));
     let (status, [_, v, ..]) = chart(&sheet, 1).numbers();
     assert_eq!((status, f64::from_bits(v)), (0, -3.1415926535897927));
@@ -231,4 +208,126 @@ fn the_last_image_is_answered_with_its_zeros() {
     let (status, numbers) = MODEL.image_pick(&sheet.bytes(), 0, &images).numbers();
     let expected = [0.5, 0.5, -0.0, 0.5, 961.0].map(f64::to_bits);
     assert_eq!((status, numbers), (0, expected));
+}
+
+// The file of plates.
+
+fn named(name: &str) -> Plate {
+    let found = plates().into_iter().find(|plate| plate.name == name);
+    found.unwrap_or_else(|| panic!("no plate is called {name}"))
+}
+
+#[test]
+fn the_committed_file_is_the_makers() {
+    let data = Path::new(env!("CARGO_MANIFEST_DIR")).join("../../crates/plates/data");
+    let committed = fs::read(data.join("plates")).expect("the committed file of plates");
+    assert!(committed == plates_file(), "run make_plates");
+}
+
+#[test]
+fn names_are_short_and_told_apart() {
+    let plates = plates();
+    let names: BTreeSet<&str> = plates.iter().map(|plate| plate.name).collect();
+    assert_eq!(names.len(), plates.len());
+    for name in names {
+        assert!(name.len() <= 32 && name.trim() == name, "{name}");
+        assert!(name.bytes().all(|b| b == b' ' || b.is_ascii_graphic()));
+    }
+}
+
+/// By hand from the table of refusals, by the model, and by the original where
+/// it can answer; each refusal of the chart is among them.
+#[test]
+fn every_plate_has_its_status() {
+    let mut seen = BTreeSet::new();
+    for plate in plates() {
+        let left = plate
+            .judged()
+            .unwrap_or_else(|e| panic!("{}: {e}", plate.name));
+        assert_eq!(left.status, plate.status, "{}", plate.name);
+        assert!(plate.given.sheet.len() <= 40_000 && plate.given.room <= 4_400);
+        seen.insert(left.status);
+    }
+    let chart: BTreeSet<u32> = (0..=9).chain(11..=14).collect();
+    assert_eq!(seen, chart);
+}
+
+/// What document 01 and its bad cuts print, and what follows by hand.
+#[test]
+fn plates_have_the_numbers_of_the_papers() {
+    let b = point(0.15625, 0.15625, (18.0f64 / 1024.0).sqrt(), 705);
+    let middle = point(0.5, 0.5, 0.5, 961);
+    let turn = 0.19634954084936207;
+    let inner = point(turn, -3.1415926535897927, 0.5, 961);
+    let rows = [
+        ("plate A", middle),
+        ("plate A, tail of 3", middle),
+        ("plate A, last point 2^-14 off", middle),
+        ("plate A with -0 for 0", middle),
+        ("128 coedges in a ring", middle),
+        ("plate B", b),
+        ("plate B, rings swapped", b),
+        ("plate C", refused(14)),
+        ("two holes", point(0.28125, 0.71875, 0.28125, 673)),
+        ("cylinder", point(turn, 0.5, 0.5, 961)),
+        ("cylinder, v to 10", point(turn, 5.0, 0.5, 961)),
+        ("rings around on a sphere", refused(13)),
+        ("torus band of 3.1, sense 1", point(turn, 1.55, 0.5, 961)),
+        ("inner band, phase 0", refused(11)),
+        ("inner band, phase 1", inner),
+        ("inner band, tail of 3", inner),
+    ];
+    for (name, expected) in rows {
+        let left = named(name).judged().expect("model and original agree");
+        assert_eq!((left.status, left.numbers), expected, "{name}");
+    }
+}
+
+/// A plane's points are written as the sheet has them, a −0 as +0.
+#[test]
+fn plates_write_their_points() {
+    let points: Vec<f64> = plate_a()
+        .coedges()
+        .flat_map(|c| c.points.concat())
+        .collect();
+    let bits: Vec<u64> = points.iter().map(|x| x.to_bits()).collect();
+    for name in ["plate A", "plate A with -0 for 0"] {
+        assert_eq!(named(name).judged().expect("agreed").list, bits);
+    }
+    let long = named("plate A, tail of 3").judged().expect("agreed").list;
+    assert_eq!(long[..bits.len()], bits);
+    assert_eq!(long[bits.len()..], [0x40C8_1C80_0000_0000; 3]);
+}
+
+/// The sizes that document 01 names.
+#[test]
+fn the_largest_sheet_is_the_documents() {
+    assert_eq!(named("largest sheet").given.sheet.len(), 35_936);
+    let more = named("largest sheet, a coedge more");
+    assert_eq!(more.given.sheet.len(), 35_936 + 280);
+}
+
+#[test]
+fn lines_show_the_answer_and_the_list() {
+    let line = |name: &str| {
+        let plate = named(name);
+        plate.line(&plate.judged().expect("model and original agree"))
+    };
+    let half = "3FE0000000000000";
+    let points = plate_a()
+        .coedges()
+        .flat_map(|c| c.points.concat())
+        .collect::<Vec<f64>>();
+    let sum: u128 = (1u128..)
+        .zip(points)
+        .map(|(n, x)| n * u128::from(x.to_bits()))
+        .sum();
+    let written = sum % (1 << 64);
+    assert_eq!(
+        line("plate A"),
+        format!("plate A: 0 {half} {half} 0000000000000000 {half} 961 {written:016X}")
+    );
+    // 1 + 2 + ... + 272 places of the number that was there.
+    let kept = (272 * 273 / 2 * 0x40C8_1C80_0000_0000u128) % (1 << 64);
+    assert_eq!(line("plate C"), format!("plate C: 14 {kept:016X}"));
 }

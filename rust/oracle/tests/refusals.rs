@@ -5,6 +5,7 @@ use std::collections::BTreeMap;
 
 use oracle::generate::{case, damaged, largest};
 use oracle::model::{Answer, MODEL};
+use oracle::plates::{above_largest, plate_a};
 use oracle::rng::Rng;
 use oracle::sheet::{set_length, Ring, Sheet, FORWARD, OTHER, REVERSED, TORUS};
 
@@ -13,10 +14,6 @@ const LENT: f64 = 7.0;
 
 fn status(answer: Answer) -> u32 {
     answer.numbers().0
-}
-
-fn plate_a() -> Sheet {
-    Sheet::flat(vec![Ring::rectangle([0.0, 0.0], [1.0, 1.0])])
 }
 
 fn chart_status(sheet: &Sheet, phase: u32) -> u32 {
@@ -127,10 +124,7 @@ fn codes_and_counts_at_their_limits_pass() {
     );
     assert_eq!(chart_status(&Sheet::new(TORUS, FORWARD, square), 1), 0);
     assert_eq!(chart_status(&largest(), 0), 0);
-    let mut more = largest();
-    let coedge = more.rings[15].0[7].clone();
-    more.rings[15].0.push(coedge);
-    assert_eq!(chart_status(&more, 0), 6);
+    assert_eq!(chart_status(&above_largest(), 0), 6);
 }
 
 #[test]

@@ -131,18 +131,10 @@ pub fn wrapped(mut ring: Ring, kind: u8) -> Ring {
 
 /// The largest sheet that is accepted: 16 rings, 128 coedges, kind 0.
 pub fn largest() -> Sheet {
-    let mut rings = vec![Ring::curve(8, |part| on_square(part, [0.5, 0.5], 0.5))];
+    let mut rings = vec![Ring::square(8, [0.5, 0.5], 0.5)];
     for k in 0..15 {
         let centre = [0.14 + 0.18 * f64::from(k % 5), 0.2 + 0.3 * f64::from(k / 5)];
-        rings.push(Ring::curve(8, |part| on_square(part, centre, 0.03)));
+        rings.push(Ring::square(8, centre, 0.03));
     }
     Sheet::flat(rings)
-}
-
-/// A point of the square around `centre`, `part` of the way round.
-fn on_square(part: f64, centre: Uv, half: f64) -> Uv {
-    let way = 4.0 * part.fract();
-    let x = 2.0 * way.fract() - 1.0;
-    let [u, v] = [[x, -1.0], [1.0, x], [-x, 1.0], [-1.0, -x]][way as usize];
-    [centre[0] + half * u, centre[1] + half * v]
 }

@@ -3,6 +3,7 @@
 use std::f64::consts::PI;
 
 use super::Case;
+use crate::plates::{dart, square};
 use crate::rng::Rng;
 use crate::sheet::{
     Plane, Ring, Sheet, Uv, CONE, CYLINDER, FORWARD, NURBS, OTHER, PLANE, REVERSED, SPHERE, TORUS,
@@ -12,10 +13,6 @@ use crate::surface::Surface;
 /// The number itself, its two neighbours and two farther off.
 fn beside(rng: &mut Rng, x: f64) -> f64 {
     rng.pick(&[x, x, x.next_up(), x.next_down(), x * 1.01, x * 0.99])
-}
-
-fn unit_square() -> Ring {
-    Ring::rectangle([0.0, 0.0], [1.0, 1.0])
 }
 
 /// Check 12: a scale of 1e-12, in u or in v.
@@ -36,7 +33,7 @@ pub fn join(rng: &mut Rng) -> Case {
     let gap = beside(rng, 1e-4);
     let gap = rng.pick(&[gap, gap, 2.0f64.powi(-13), 2.0f64.powi(-14)]);
     let kind = rng.pick(&[PLANE, CYLINDER, CONE, SPHERE, TORUS, NURBS, OTHER]);
-    let mut ring = unit_square();
+    let mut ring = square(0.0, 1.0);
     match rng.below(3) {
         0 => ring.0[3].points[16] = [0.0, gap],
         1 => ring.0[3].points[16] = [gap, 0.0],
@@ -46,21 +43,12 @@ pub fn join(rng: &mut Rng) -> Case {
     Case::new(rng, sheet)
 }
 
-/// Check 14: two equal squares, covering nothing, and a dart around (0.5, 0.5)
-/// whose notch is 0.01 away, so that the best clearance is 0.01 or beside it.
+/// Check 14: a best clearance of 0.01 or beside it.
 pub fn clearance(rng: &mut Rng) -> Case {
     let target = rng.pick(&[0.01, 0.01f64.next_up(), 0.01f64.next_down()]);
-    let notch = point_at_distance(rng, target);
-    let corners = [
-        notch,
-        [0.515, 0.47],
-        [0.53, 0.53],
-        [0.47, 0.53],
-        [0.47, 0.49],
-    ];
-    let dart = Ring::polygon(&corners);
+    let rings = dart(point_at_distance(rng, target));
     let kind = rng.pick(&[PLANE, CYLINDER, SPHERE, TORUS, NURBS, OTHER]);
-    let sheet = Sheet::new(kind, FORWARD, vec![unit_square(), unit_square(), dart]);
+    let sheet = Sheet::new(kind, FORWARD, rings);
     Case::new(rng, sheet)
 }
 
