@@ -1,9 +1,25 @@
 // The calls over the C convention: exported functions and nothing else. The archive for Rust or C is
 // target/staticlib/libcapi.a (`rt staticlib capi`). Names carry the prefix facepoint_, since `round`
-// and `hypot` alone would clash with the C library's.
+// and `hypot` alone would clash with the C library's. A slice goes as a pointer and the number of its
+// elements.
+mod result;
+
+use crate::result::put;
 ghost use mathlib.Core.Path.{_≡_};
 ghost use Rattle.leaves.specs.Root.{rootOf};
 ghost use Rattle.leaves.specs.Round.{roundOf};
+ghost use Rattle.capi.specs.Convention.{seen, chartSeen};
+
+// The chart call: the status returned, the five numbers in `result`, the moved points in `points`.
+#[no_mangle]
+pub extern "C" fn facepoint_chart(sheet: &[u8], phase: u32, points: &mut [f64], result: &mut [f64]) -> u32
+    ensures { λ r. ⌜ seen r (now (result .exit)) (now (points .exit)) ≡ chartSeen (now (sheet .entry)) phase (now (points .entry)) (now (result .entry)) ⌝ }
+{
+    if result.len() != 5 {
+        return 1;
+    }
+    put(chart::chart(sheet, phase, points), result)
+}
 
 // The IEEE 754 square root: double facepoint_root(double).
 #[no_mangle]

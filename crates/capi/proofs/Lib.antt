@@ -1,0 +1,4 @@
+-- Laws about the C convention.
+
+-- the result list
+pub mod Five
