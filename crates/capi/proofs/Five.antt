@@ -1,10 +1,10 @@
 -- A list of five numbers, each of which is stored.
-use mathlib.Core.Path.{_≡_, refl, ap}
 use mathlib.Core.List.{List, [], _∷_}
+use mathlib.Core.Path.{_≡_, refl, ap}
 use Prim.Native.Nat.{ℕ, suc}
 use native.Mathlib.Omega.{arith}
-use lib.IntN.{pos}
 use lib.Ieee.{Float, binary64, ofBits, ofInt}
+use lib.IntN.{pos}
 use lib.ListN.{length, set}
 use borrow.Author.Tests.{eq-eqb, ne-eqb}
 use Rattle.leaves.specs.Constants.{zero}

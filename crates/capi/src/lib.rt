@@ -12,7 +12,12 @@ ghost use Rattle.capi.specs.Convention.{seen, chartSeen};
 
 // The chart call: the status returned, the five numbers in `result`, the moved points in `points`.
 #[no_mangle]
-pub extern "C" fn facepoint_chart(sheet: &[u8], phase: u32, points: &mut [f64], result: &mut [f64]) -> u32
+pub extern "C" fn facepoint_chart(
+    sheet: &[u8],
+    phase: u32,
+    points: &mut [f64],
+    result: &mut [f64],
+) -> u32
     ensures { λ r. ⌜ seen r (now (result .exit)) (now (points .exit)) ≡ chartSeen (now (sheet .entry)) phase (now (points .entry)) (now (result .entry)) ⌝ }
 {
     if result.len() != 5 {

@@ -1,26 +1,26 @@
 -- The chart call of a sheet that passes the checks down to 9: what the stages settle on the moved rings is the call's own definition, of its numbers and of the output list.
-use mathlib.Core.Path.{_≡_, refl, sym, ap, ap₂, _∙_}
 use mathlib.Core.Bool.{Bool, true, false, cond}
 use mathlib.Core.List.{List, [], _∷_, _++_, map, flatten}
-use Prim.Native.Nat.{ℕ, _+_, _*_, _≤_, _<_}
+use mathlib.Core.Path.{_≡_, refl, sym, ap, ap₂, _∙_}
+use Prim.Native.Nat.{ℕ, _*_, _≤_, _<_}
 use native.Mathlib.Omega.{arith}
-use lib.Dec.{eqb, ltb}
+use lib.Dec.{eqb}
 use lib.Ieee.{Float}
 use lib.ListN.{length, drop, length-map}
 use borrow.Author.Tests.{ltb-false, le-ltb, lt-ltb, ne-eqb}
+use Rattle.sheet.specs.Checks.{Check, check, first, layoutChecks, contentChecks}
 use Rattle.sheet.specs.Content.{Point, Coedge, ringPoints, pairs, flat}
 use Rattle.sheet.specs.Layout.{kind, sense, ringCount, headSize, ring, cut, blocks, sheetOf}
 use Rattle.sheet.specs.Lists.{anyOf, over}
-use Rattle.sheet.specs.Checks.{Check, check, first, layoutChecks, contentChecks}
 use Rattle.sheet.proofs.Blocks.{coedge-points}
 use Rattle.sheet.proofs.Checked.{Checked, checked, first-passed, first-refused}
+use Rattle.rings.specs.Joins.{opens, ringOpen}
 use Rattle.rings.specs.Unroll.{movedRing}
-use Rattle.rings.specs.Joins.{opens, every, ringOpen}
 use Rattle.rings.proofs.Flat.{pairs-flat, length-flat}
 use Rattle.rings.proofs.Moved.{length-moved}
 use Rattle.rings.proofs.Opening.{opening}
 use Rattle.chart.specs.Answer.{Numbers, refused, paper}
-use Rattle.chart.specs.Chart.{candidate, answered, noneClear, charted, chartOf, chartChecks, frameChecks, movedRings, frame, joinsOpen, normalised, chosen, pointCount, phaseWrong, roomWrong, written, writtenPoint}
+use Rattle.chart.specs.Chart.{candidate, answered, noneClear, charted, chartOf, chartChecks, frameChecks, movedRings, frame, joinsOpen, chosen, pointCount, phaseWrong, roomWrong, written, writtenPoint}
 use Rattle.chart.specs.Frame.{frameOf, bandWide, narrow}
 use Rattle.chart.specs.Parts.{ringsFrom, endsFrom}
 use Rattle.chart.specs.Stages.{isPoint, movedBlock, movedBlocks, anyOpen, normalisedBy, stageChecks, settled, foundIn, Passed}
@@ -29,8 +29,8 @@ use Rattle.chart.specs.declared.answer.Answer.the-variants.{Refused}
 use Rattle.chart.specs.declared.candidate.Candidate.{Candidate}
 use Rattle.chart.specs.declared.frame.Frame.{Frame}
 use Rattle.chart.proofs.AnyOrder.{chosen-in}
-use Rattle.chart.proofs.Counting.{pointsIn, points-by-coedges, count-of-blocks, moved-numbers}
-use Rattle.chart.proofs.Outcomes.{chart-outcome, chart-numbers, chart-points}
+use Rattle.chart.proofs.Counting.{points-by-coedges, count-of-blocks, moved-numbers}
+use Rattle.chart.proofs.Outcomes.{chart-numbers, chart-points}
 use Rattle.chart.proofs.Parting.{rings-are}
 
 -- ---- the moved rings

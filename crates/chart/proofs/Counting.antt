@@ -1,20 +1,20 @@
 -- How many points a sheet's rings have: seventeen a coedge, as many when they are moved, and two numbers each.
+use mathlib.Core.List.{List, [], _∷_, map, flatten, foldl}
 use mathlib.Core.Path.{_≡_, refl, sym, ap, _∙_}
-use mathlib.Core.List.{List, [], _∷_, map, flatten, foldl, map-map}
 use Prim.Native.Nat.{ℕ, _+_, _*_, _-_, _/_, _≤_, _<_}
 use native.Mathlib.Nat.{add-assoc, zero-add, add-zero}
 use native.Mathlib.Omega.{arith}
 use lib.Ieee.{Float}
 use lib.ListN.{length, getD, take, drop, length-append, length-map}
+use Rattle.sheet.specs.Checks.{coedgeTotal}
 use Rattle.sheet.specs.Content.{Coedge, ringPoints, flat, pairs}
 use Rattle.sheet.specs.Layout.{blockSize, ring, cut, blocks, headSize, kind, ringCount, sheetOf}
-use Rattle.sheet.specs.Checks.{coedgeTotal}
 use Rattle.sheet.proofs.Blocks.{ring-length, ring-points-length, first-byte}
 use Rattle.sheet.proofs.Walks.{cut-step, cut-end}
 use Rattle.rings.proofs.Flat.{flat-append, length-flat, length-pairs}
 use Rattle.rings.proofs.Moved.{length-moved}
 use Rattle.chart.specs.Chart.{pointCount, writtenPoint}
-use Rattle.chart.specs.Stages.{movedBlock, movedBlocks}
+use Rattle.chart.specs.Stages.{movedBlock}
 
 -- ---- sums
 

@@ -1,17 +1,17 @@
 -- Rings that stand one behind the other in one list of numbers: parted at their ends they are those rings again, and a change of every point changes each ring.
-use mathlib.Core.Path.{_≡_, refl, sym, ap, ap₂, _∙_, subst}
 use mathlib.Core.List.{List, [], _∷_, _++_, map, flatten, append-nil, append-assoc, map-append}
+use mathlib.Core.Path.{_≡_, refl, sym, ap, ap₂, _∙_, subst}
 use Prim.Native.Nat.{ℕ, _+_, _*_, _-_, _/_, _≤_}
 use native.Mathlib.Omega.{arith}
 use lib.Ieee.{Float}
 use lib.ListN.{length, take, drop, length-append, length-map, drop-of-length-le}
 use lib.Seq.{take-at, drop-at}
 use Rattle.sheet.specs.Content.{Point, pairs, flat, onPoints}
-use Rattle.rings.proofs.Flat.{pairs-flat, flat-append, length-flat, length-on-points}
 use Rattle.rings.specs.Normalise.{normal as normalOf}
-use Rattle.chart.specs.declared.frame.Frame.{Frame}
-use Rattle.chart.specs.Stages.{normalisedBy}
+use Rattle.rings.proofs.Flat.{pairs-flat, flat-append, length-flat, length-on-points}
 use Rattle.chart.specs.Parts.{parts, ringsFrom, endsFrom, Ascends, Packed}
+use Rattle.chart.specs.Stages.{normalisedBy}
+use Rattle.chart.specs.declared.frame.Frame.{Frame}
 
 -- ---- parted at their ends
 

@@ -1,19 +1,18 @@
 -- The moved rings of a sheet in one list of numbers: each ring's block read and moved in its own part of the list, one behind the other.
-use mathlib.Core.Path.{_≡_, refl, sym, ap, ap₂, _∙_}
 use mathlib.Core.Bool.{true}
-use mathlib.Core.List.{List, [], _∷_, _++_, map, flatten, append-nil, append-assoc, map-map}
+use mathlib.Core.List.{List, [], _∷_, _++_, map, flatten, append-nil, append-assoc}
+use mathlib.Core.Path.{_≡_, refl, sym, ap, _∙_}
 use Prim.Native.Nat.{ℕ, _+_, _*_, _-_, _/_, _≤_, _<_}
 use native.Mathlib.Nat.{sub-zero, zero-add, add-zero}
 use native.Mathlib.Numerals.{add-one}
 use native.Mathlib.Omega.{arith}
-use lib.Dec.{ltb}
 use lib.Ieee.{Float}
 use lib.ListN.{length, getD, take, drop, set, length-append, length-drop, length-set, drop-of-length-le}
 use lib.Seq.{getD-drop, length-take-le, take-at, take-all, take-suc-set}
 use borrow.Author.Tests.{le-ltb}
-use Rattle.sheet.specs.Content.{Point, Coedge, ringPoints, pairs, flat, onPoints}
-use Rattle.sheet.specs.Layout.{blockSize, ring, cut, blocks, headSize, kind, ringCount, sheetOf}
 use Rattle.sheet.specs.Checks.{fill}
+use Rattle.sheet.specs.Content.{Point, ringPoints, flat, onPoints}
+use Rattle.sheet.specs.Layout.{blockSize, ring, kind}
 use Rattle.sheet.specs.Lists.{over}
 use Rattle.sheet.proofs.Blocks.{ring-points-length, first-byte}
 use Rattle.sheet.proofs.Walks.{cut-step, cut-end, fill-room, fill-step}

@@ -1,14 +1,14 @@
 -- Checks 11 to 14 in a frame: the first that fails is the answer's number, and where none fails the answer is the candidate's.
-use mathlib.Core.Path.{_≡_, refl, sym, ap, _∙_}
 use mathlib.Core.Bool.{Bool, true, false}
 use mathlib.Core.List.{List}
+use mathlib.Core.Path.{_≡_, sym, ap, _∙_}
 use Prim.Native.Nat.{ℕ}
 use lib.Dec.{eqb}
 use lib.Ieee.{binary64, ofBits, lt}
 use Rattle.leaves.specs.Constants.{clearanceLimit}
 use Rattle.leaves.proofs.ConstantBits.{clearanceLimit-bits}
-use Rattle.sheet.specs.Content.{Point}
 use Rattle.sheet.specs.Checks.{first}
+use Rattle.sheet.specs.Content.{Point}
 use Rattle.chart.specs.Answer.{paper}
 use Rattle.chart.specs.Chart.{candidate, answered, noneClear}
 use Rattle.chart.specs.Frame.{bandWide, narrow}

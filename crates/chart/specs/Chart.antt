@@ -1,5 +1,5 @@
 -- Document 01, "Chart": the chart call, from the bytes of a sheet, the phase and the output list to the answer and the list's later contents.
-use mathlib.Core.Bool.{Bool, true, false, not, cond, _&&_, _||_}
+use mathlib.Core.Bool.{Bool, false, not, cond, _&&_, _||_}
 use mathlib.Core.List.{List, [], _∷_, _++_, map, flatten, foldl}
 use Prim.Native.Nat.{ℕ, _+_, _*_, _%_}
 use lib.Dec.{eqb, ltb}

@@ -1,6 +1,6 @@
 -- Document 01, "Chart", rule 9: "Best so far starts at clearance 0 and is replaced only by a greater one. Added: the result counts the covered grid points", over any coverage and any clearance of the grid points.
 use mathlib.Core.Bool.{Bool, cond}
-use mathlib.Core.List.{List, foldl}
+use mathlib.Core.List.{foldl}
 use Prim.Native.Nat.{ℕ, _+_}
 use lib.Ieee.{Float, lt}
 use Rattle.leaves.specs.Constants.{zero}

@@ -1,21 +1,21 @@
 -- What the private functions of the chart promise each other, on rings that stand in one list of numbers (Parts). A reader of the chart's definition needs nothing of it.
-use mathlib.Core.Path.{_≡_}
 use mathlib.Core.Bool.{Bool, true, false, cond}
 use mathlib.Core.List.{List, [], _∷_, _++_, map}
+use mathlib.Core.Path.{_≡_}
 use Prim.Native.Nat.{ℕ}
 use lib.Dec.{eqb}
-use lib.ListN.{length}
 use lib.Ieee.{Float}
-use Rattle.sheet.specs.Content.{Point, ringPoints}
-use Rattle.sheet.specs.Lists.{anyOf}
-use Rattle.sheet.specs.Layout.{ring, cut, sheetOf}
+use lib.ListN.{length}
 use Rattle.sheet.specs.Checks.{Check, check, first, layoutChecks, contentChecks}
-use Rattle.rings.specs.Unroll.{movedRing}
+use Rattle.sheet.specs.Content.{Point, ringPoints}
+use Rattle.sheet.specs.Layout.{ring, cut, sheetOf}
+use Rattle.sheet.specs.Lists.{anyOf}
 use Rattle.rings.specs.Joins.{ringOpen, every}
 use Rattle.rings.specs.Normalise.{normal}
+use Rattle.rings.specs.Unroll.{movedRing}
 use Rattle.chart.specs.Answer.{Numbers, refused}
 use Rattle.chart.specs.Chart.{candidate, answered, noneClear, phaseWrong, roomWrong}
-use Rattle.chart.specs.Frame.{frameOf, bandWide, narrow}
+use Rattle.chart.specs.Frame.{bandWide, narrow}
 use Rattle.chart.specs.declared.answer.Answer.{Answer}
 use Rattle.chart.specs.declared.answer.Answer.the-variants.{Point as Answered, Refused}
 use Rattle.chart.specs.declared.frame.Frame.{Frame}

@@ -1,11 +1,10 @@
 -- Points in a list of numbers, read one after the other: what `pairs` gives from the place 2 * k on.
-use mathlib.Core.Path.{_≡_, refl, sym, ap, _∙_}
+use mathlib.Core.Path.{_≡_, refl}
 use mathlib.Core.List.{List, [], _∷_}
 use Prim.Native.Nat.{ℕ, suc, _+_, _*_, _/_, _<_, _≤_}
-use native.Mathlib.Numerals.{add-one}
 use native.Mathlib.Omega.{arith}
 use lib.Ieee.{Float}
-use lib.ListN.{length, getD, drop, length-drop, drop-of-length-le}
+use lib.ListN.{length, getD, drop, length-drop}
 use lib.Seq.{drop-cons}
 use Rattle.sheet.specs.Content.{point, pairs}
 

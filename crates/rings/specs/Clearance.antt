@@ -1,10 +1,10 @@
 -- Document 01, "Chart", rule 8: the distance of a point to a segment, and the least of them over a ring.
 use mathlib.Core.Bool.{Bool, true, false, cond}
-use mathlib.Core.List.{List, [], _∷_, foldl}
+use mathlib.Core.List.{List, foldl}
 use lib.Ieee.{Float, binary64, ofBits, add, sub, mul, div, lt}
 use Rattle.leaves.specs.Bounds.{smallerOf, clampOf}
 use Rattle.leaves.specs.Constants.{zero}
-use Rattle.leaves.specs.Hypot.{keyOf, hypotOfKey, hypotOf}
+use Rattle.leaves.specs.Hypot.{keyOf, hypotOf}
 use Rattle.sheet.specs.Content.{Point, point}
 use Rattle.rings.specs.Coverage.{gained, middle}
 use Rattle.rings.specs.Segments.{Segment, segment, segments}

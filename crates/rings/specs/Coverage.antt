@@ -3,7 +3,7 @@ use mathlib.Core.Bool.{Bool, true, false, cond, xor, _&&_}
 use mathlib.Core.List.{List, [], _∷_, foldl}
 use lib.IntN.{ℤ, pos, negsuc, _+ℤ_}
 use lib.Ieee.{Float, binary64, ofBits, add, sub, mul, div, lt}
-use Rattle.sheet.specs.Content.{Point, point}
+use Rattle.sheet.specs.Content.{Point}
 use Rattle.rings.specs.Bounds.{lastOf}
 use Rattle.rings.specs.Segments.{Segment, segments}
 use Rattle.rings.specs.Turns.{turns}

@@ -8,7 +8,7 @@ use lib.Ieee.{Float, binary64, ofBits, neg, lt, le}
 use Rattle.leaves.specs.Constants.{zero as plusZero, deviationLimit}
 use Rattle.sheet.specs.Content.{Point, Coedge, Sheet}
 use Rattle.sheet.specs.Lists.{anyOf}
-use Rattle.sheet.specs.Layout.{lengthField, version, kind, sense, ringCount, headSize, blockSize, sheetOf}
+use Rattle.sheet.specs.Layout.{lengthField, version, kind, sense, ringCount, headSize, blockSize}
 
 -- ---- a refusal is the number of the first check that fails
 

@@ -1,6 +1,6 @@
 -- What a sheet says: the surface's kind and sense, the plane's numbers, and the rings that trim it.
 -- A ring is a list of coedges, a coedge a deviation and the points (u, v) sampled along it, however many.
-use mathlib.Core.List.{List, [], _∷_, _++_, map, flatMap}
+use mathlib.Core.List.{List, [], _∷_, _++_, flatMap}
 use Prim.Native.Nat.{ℕ, _*_, _/_}
 use lib.ListN.{length, drop}
 use lib.Ieee.{Float}

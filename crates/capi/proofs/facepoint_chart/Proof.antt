@@ -1,9 +1,8 @@
-use Rattle.chart.specs.Chart.{chartOf}
-use Rattle.capi.proofs.Five.{other-length, of-five}
-use Rattle.capi.specs.Convention.{chartSeen}
 -- `capi::facepoint_chart` meets its contract, by those of `chart` and `put`: another length than five is refused first of all.
-use native.Mathlib.Omega.{arith}
 use borrow.Author.Needs.{needs}
+use Rattle.chart.specs.Chart.{chartOf}
+use Rattle.capi.specs.Convention.{chartSeen}
+use Rattle.capi.proofs.Five.{other-length, of-five}
 use Rattle.capi.proofs.facepoint_chart.Statement.{statement}
 use Rattle.capi.proofs.facepoint_chart.Tie as tie
 

@@ -1,10 +1,10 @@
-use Rattle.capi.proofs.Five.{five-stored, point-five, refused-five}
-use mathlib.Core.Path.{ap, _∙_}
-use Rattle.chart.specs.Answer.{paper}
 -- `capi::result::put` meets its contract: five stores fill the list with the answer's numbers, or with zeros.
+use mathlib.Core.Path.{ap, _∙_}
 use native.Mathlib.Omega.{arith}
 use lib.ListN.{length-set}
 use borrow.Author.Needs.{needs}
+use Rattle.chart.specs.Answer.{paper}
+use Rattle.capi.proofs.Five.{five-stored, point-five, refused-five}
 use Rattle.capi.proofs.result.put.Statement.{statement}
 use Rattle.capi.proofs.result.put.Tie as tie
 

@@ -1,9 +1,9 @@
 -- `chart::call::answer` meets its contract: the point's numbers are the chart's formula, operation by operation.
 use mathlib.Core.Path.{refl}
-use Rattle.chart.specs.Stages.{isPoint}
+use borrow.Author.Needs.{needs}
 use Rattle.chart.specs.Answer.{paper}
 use Rattle.chart.specs.Chart.{answered}
-use borrow.Author.Needs.{needs}
+use Rattle.chart.specs.Stages.{isPoint}
 use Rattle.chart.proofs.call.answer.Statement.{statement}
 use Rattle.chart.proofs.call.answer.Tie as tie
 

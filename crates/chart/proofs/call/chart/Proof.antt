@@ -1,17 +1,17 @@
 -- `chart::call::chart` meets its contract: the checks down to 9 in the table's order, and then `chart_over`, for which the two lists have room.
-use Rattle.chart.specs.Stages.{Passed}
-use Rattle.chart.specs.Chart.{pointCount, roomWrong}
+use mathlib.Core.List.{_++_}
+use mathlib.Core.Path.{_≡_, sym, _∙_}
+use Prim.Native.Nat.{_*_, _≤_}
+use native.Mathlib.Omega.{arith}
+use lib.ListN.{length}
+use lib.Seq.{length-take-le}
+use borrow.Author.Needs.{needs}
+use borrow.Author.Tests.{le-ltb}
 use Rattle.sheet.specs.Checks.{first, layoutChecks, contentChecks}
 use Rattle.sheet.specs.Layout.{sheetOf}
-use borrow.Author.Tests.{le-ltb}
-use lib.Seq.{length-take-le}
-use Prim.Native.Nat.{_*_, _≤_}
-use lib.ListN.{length}
-use mathlib.Core.List.{_++_}
-use mathlib.Core.Path.{_≡_, sym, ap, _∙_}
+use Rattle.chart.specs.Chart.{pointCount, roomWrong}
+use Rattle.chart.specs.Stages.{Passed}
 use Rattle.chart.proofs.Calling.{call-unread, call-wrong-phase, call-no-room, numbers-most, good}
-use native.Mathlib.Omega.{arith}
-use borrow.Author.Needs.{needs}
 use Rattle.chart.proofs.call.chart.Statement.{statement}
 use Rattle.chart.proofs.call.chart.Tie as tie
 

@@ -1,18 +1,18 @@
-use Rattle.chart.specs.Stages.{isPoint, movedBlocks}
-use Rattle.chart.proofs.Counting.{written-room}
 -- `chart::call::chart_over` meets its contract: `prepare` lays the moved rings out, `found` settles the checks 11 to 14 on them, and the points are written where it answers.
-use Rattle.chart.proofs.Calling.{good, numbers-count, numbers-most, numbers-fit, call-refused, call-answered}
-use Rattle.chart.proofs.Parting.{packed}
-use Rattle.chart.specs.Parts.{endsFrom}
-use Rattle.sheet.specs.Layout.{kind, headSize, ringCount}
-use Rattle.sheet.specs.Content.{flat}
-use lib.Seq.{length-take-le}
-use lib.ListN.{length, drop}
 use mathlib.Core.List.{flatten}
-use Prim.Native.Nat.{_≤_}
 use mathlib.Core.Path.{_≡_, sym, ap, _∙_}
+use Prim.Native.Nat.{_≤_}
 use native.Mathlib.Omega.{arith}
+use lib.ListN.{length, drop}
+use lib.Seq.{length-take-le}
 use borrow.Author.Needs.{needs}
+use Rattle.sheet.specs.Content.{flat}
+use Rattle.sheet.specs.Layout.{kind, headSize, ringCount}
+use Rattle.chart.specs.Parts.{endsFrom}
+use Rattle.chart.specs.Stages.{isPoint, movedBlocks}
+use Rattle.chart.proofs.Calling.{good, numbers-count, numbers-most, numbers-fit, call-refused, call-answered}
+use Rattle.chart.proofs.Counting.{written-room}
+use Rattle.chart.proofs.Parting.{packed}
 use Rattle.chart.proofs.call.chart_over.Statement.{statement}
 use Rattle.chart.proofs.call.chart_over.Tie as tie
 

@@ -1,7 +1,6 @@
 -- `chart::call::chosen` meets its contract: the list has room for the points of any sheet that passes check 6.
-use native.Mathlib.Omega.{arith}
-use lib.Seq.{length-take-le}
 use mathlib.Core.Path.{sym}
+use lib.Seq.{length-take-le}
 use borrow.Author.Needs.{needs}
 use Rattle.chart.proofs.call.chosen.Statement.{statement}
 use Rattle.chart.proofs.call.chosen.Tie as tie

@@ -1,9 +1,8 @@
 -- `chart::call::chosen_over` meets its contract: the copy is normalised, and the rings in it are the normalised rings.
-use Rattle.chart.proofs.Parting.{normal-rings, normal-ascends}
-use Rattle.chart.specs.Chart.{candidate}
 use mathlib.Core.Path.{ap, _∙_}
-use native.Mathlib.Omega.{arith}
 use borrow.Author.Needs.{needs}
+use Rattle.chart.specs.Chart.{candidate}
+use Rattle.chart.proofs.Parting.{normal-rings, normal-ascends}
 use Rattle.chart.proofs.call.chosen_over.Statement.{statement}
 use Rattle.chart.proofs.call.chosen_over.Tie as tie
 

@@ -1,14 +1,11 @@
-use lib.Seq.{take-all, take-suc, take-suc-set}
-use lib.ListN.{length, take, length-set}
-use lib.Ieee.{nan}
-use native.Mathlib.Numerals.{add-one}
-use Prim.Native.Nat.{_-_, _<_, _≤_}
 -- `chart::call::copy` meets its contract. The invariant: the first k numbers are copied.
+use mathlib.Core.Path.{_≡_, refl, sym, _∙_}
+use Prim.Native.Nat.{_-_, _<_, _≤_}
+use native.Mathlib.Numerals.{add-one}
 use native.Mathlib.Omega.{arith}
-use borrow.Author.Needs.{needs}
-use lib.ListN.{length, take}
-use mathlib.Core.Path.{_≡_, refl, sym, ap, _∙_}
-use Prim.Native.Nat.{_-_, _≤_}
+use lib.Ieee.{nan}
+use lib.ListN.{length, take, length-set}
+use lib.Seq.{take-all, take-suc, take-suc-set}
 use Rattle.chart.proofs.call.copy.Statement.{statement}
 use Rattle.chart.proofs.call.copy.Tie as tie
 

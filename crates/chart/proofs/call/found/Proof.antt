@@ -1,10 +1,9 @@
 -- `chart::call::found` meets its contract: the points of the list are those of its rings, so the frame is the rings' own.
-use Rattle.chart.specs.Parts.{ringsFrom}
-use Rattle.chart.specs.Frame.{frameOf, framed, periodicOf, bandOf}
 use mathlib.Core.Path.{_≡_, ap, _∙_}
-use native.Mathlib.Omega.{arith}
-use Rattle.chart.proofs.Parting.{packed-ascends, packed-points}
 use borrow.Author.Needs.{needs}
+use Rattle.chart.specs.Frame.{frameOf, framed, periodicOf, bandOf}
+use Rattle.chart.specs.Parts.{ringsFrom}
+use Rattle.chart.proofs.Parting.{packed-ascends, packed-points}
 use Rattle.chart.proofs.call.found.Statement.{statement}
 use Rattle.chart.proofs.call.found.Tie as tie
 

@@ -1,10 +1,9 @@
-use Rattle.chart.specs.Chart.{answered}
-use mathlib.Core.Path.{sym, ap, _∙_}
 -- `chart::call::found_in` meets its contract: the checks 11 to 14 in the table's order, each by the contract of what tests it.
-use native.Mathlib.Omega.{arith}
-use Rattle.chart.proofs.Settling.{found-11, found-12, found-13, found-14, found-point, above-limit}
-use Rattle.chart.proofs.Parting.{packed-ascends}
+use mathlib.Core.Path.{sym, ap, _∙_}
 use borrow.Author.Needs.{needs}
+use Rattle.chart.specs.Chart.{answered}
+use Rattle.chart.proofs.Parting.{packed-ascends}
+use Rattle.chart.proofs.Settling.{found-11, found-12, found-13, found-14, found-point, above-limit}
 use Rattle.chart.proofs.call.found_in.Statement.{statement}
 use Rattle.chart.proofs.call.found_in.Tie as tie
 

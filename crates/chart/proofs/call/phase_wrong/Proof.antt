@@ -1,8 +1,8 @@
 -- `chart::call::phase_wrong` meets its contract: the tests of the code are those of the definition, and the kind is the sheet's.
-use Rattle.sheet.specs.Layout.{sheetOf}
-use borrow.Author.Tests.{eq-eqb, ne-eqb, lt-ltb, le-ltb}
-use Rattle.chart.specs.Chart.{phaseWrong}
 use borrow.Author.Needs.{needs}
+use borrow.Author.Tests.{eq-eqb, ne-eqb, lt-ltb, le-ltb}
+use Rattle.sheet.specs.Layout.{sheetOf}
+use Rattle.chart.specs.Chart.{phaseWrong}
 use Rattle.chart.proofs.call.phase_wrong.Statement.{statement}
 use Rattle.chart.proofs.call.phase_wrong.Tie as tie
 

@@ -1,17 +1,16 @@
-use Rattle.sheet.proofs.Checked.{head-size-most}
-use Rattle.sheet.proofs.Blocks.{block-size-at}
-use Rattle.sheet.specs.Layout.{headSize, kind, cut, sheetOf}
-use lib.Seq.{getD-drop}
-use native.Mathlib.Nat.{sub-zero, zero-add, add-zero}
 -- `chart::call::point_numbers` counts the numbers of all points. The invariant: those counted and those of the blocks left are all; a block has at most 71401 bytes, so no place wraps.
-use native.Mathlib.Omega.{arith}
-use borrow.Author.Needs.{needs}
-use Rattle.chart.proofs.Counting.{pointsIn, points-step, points-end, count-of-blocks}
-use Rattle.chart.specs.Chart.{pointCount}
-use Rattle.sheet.specs.Layout.{cut, sheetOf}
-use lib.ListN.{getD, drop}
-use mathlib.Core.Path.{_≡_, sym, ap, _∙_}
+use mathlib.Core.Path.{_≡_, ap, _∙_}
 use Prim.Native.Nat.{_+_, _*_, _-_, _≤_}
+use native.Mathlib.Nat.{sub-zero, zero-add, add-zero}
+use native.Mathlib.Omega.{arith}
+use lib.ListN.{getD, drop}
+use lib.Seq.{getD-drop}
+use borrow.Author.Needs.{needs}
+use Rattle.sheet.specs.Layout.{headSize, kind, cut, sheetOf}
+use Rattle.sheet.proofs.Blocks.{block-size-at}
+use Rattle.sheet.proofs.Checked.{head-size-most}
+use Rattle.chart.specs.Chart.{pointCount}
+use Rattle.chart.proofs.Counting.{pointsIn, points-step, points-end, count-of-blocks}
 use Rattle.chart.proofs.call.point_numbers.Statement.{statement}
 use Rattle.chart.proofs.call.point_numbers.Tie as tie
 

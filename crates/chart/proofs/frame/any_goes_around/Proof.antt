@@ -1,15 +1,15 @@
 -- `chart::frame::any_goes_around` meets its contract. The invariant: on the rings that are left it holds as on all. A ring that goes around ends the loop.
-use lib.ListN.{length, getD, drop}
-use mathlib.Core.Path.{_≡_, refl, sym, _∙_}
 -- `chart::frame::any_goes_around` meets its contract. The invariant: on the rings that are left it holds as on all. A ring that goes around ends the loop.
-use native.Mathlib.Omega.{arith}
-use borrow.Author.Needs.{needs}
-use Rattle.chart.proofs.Rings.{ascends-step, end-bound, rings-step, rings-end}
-use Rattle.chart.specs.Parts.{ringsFrom, Ascends}
-use Rattle.sheet.proofs.Walks.{any-found, any-passed, any-none}
-use Rattle.sheet.specs.Lists.{anyOf}
-use Rattle.rings.specs.Bounds.{goesAround}
+use mathlib.Core.Path.{_≡_, refl, sym, _∙_}
 use Prim.Native.Nat.{_-_, _≤_}
+use native.Mathlib.Omega.{arith}
+use lib.ListN.{length, getD, drop}
+use borrow.Author.Needs.{needs}
+use Rattle.sheet.specs.Lists.{anyOf}
+use Rattle.sheet.proofs.Walks.{any-found, any-passed, any-none}
+use Rattle.rings.specs.Bounds.{goesAround}
+use Rattle.chart.specs.Parts.{ringsFrom, Ascends}
+use Rattle.chart.proofs.Rings.{ascends-step, end-bound, rings-step, rings-end}
 use Rattle.chart.proofs.frame.any_goes_around.Statement.{statement}
 use Rattle.chart.proofs.frame.any_goes_around.Tie as tie
 

@@ -1,6 +1,6 @@
 -- `chart::frame::capped` meets its contract: the test of the code is that of the definition.
-use Rattle.chart.specs.Frame.{capped}
 use borrow.Author.Needs.{needs}
+use Rattle.chart.specs.Frame.{capped}
 use Rattle.chart.proofs.frame.capped.Statement.{statement}
 use Rattle.chart.proofs.frame.capped.Tie as tie
 

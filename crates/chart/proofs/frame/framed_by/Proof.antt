@@ -1,6 +1,6 @@
 -- `chart::frame::framed_by` meets its contract, by those of what it calls.
-use Rattle.chart.specs.Frame.{framed}
 use borrow.Author.Needs.{needs}
+use Rattle.chart.specs.Frame.{framed}
 use Rattle.chart.proofs.frame.framed_by.Statement.{statement}
 use Rattle.chart.proofs.frame.framed_by.Tie as tie
 

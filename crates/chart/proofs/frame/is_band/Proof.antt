@@ -1,7 +1,7 @@
 -- `chart::frame::is_band` meets its contract: the test of the code is that of the definition.
+use borrow.Author.Needs.{needs}
 use borrow.Author.Tests.{eq-eqb, ne-eqb}
 use Rattle.chart.specs.Frame.{bandOf}
-use borrow.Author.Needs.{needs}
 use Rattle.chart.proofs.frame.is_band.Statement.{statement}
 use Rattle.chart.proofs.frame.is_band.Tie as tie
 

@@ -1,17 +1,17 @@
 -- `chart::frame::joins_open` meets its contract. The invariant: on the rings that are left it holds as on all. A ring with an open join ends the loop.
-use native.Mathlib.Omega.{arith}
-use borrow.Author.Needs.{needs}
-use Rattle.chart.specs.Stages.{anyOpen}
-use Rattle.rings.specs.Joins.{ringOpen, every}
-use Rattle.sheet.specs.Content.{Point}
 use mathlib.Core.List.{List}
-use Rattle.chart.proofs.Rings.{ascends-step, end-bound, rings-step, rings-end}
-use Rattle.chart.specs.Parts.{ringsFrom, Ascends}
-use Rattle.sheet.proofs.Walks.{any-found, any-passed, any-none}
-use Rattle.sheet.specs.Lists.{anyOf}
-use lib.ListN.{length, getD, drop}
-use Prim.Native.Nat.{_-_, _≤_}
 use mathlib.Core.Path.{_≡_, refl, sym, _∙_}
+use Prim.Native.Nat.{_-_, _≤_}
+use native.Mathlib.Omega.{arith}
+use lib.ListN.{length, getD, drop}
+use borrow.Author.Needs.{needs}
+use Rattle.sheet.specs.Content.{Point}
+use Rattle.sheet.specs.Lists.{anyOf}
+use Rattle.sheet.proofs.Walks.{any-found, any-passed, any-none}
+use Rattle.rings.specs.Joins.{ringOpen, every}
+use Rattle.chart.specs.Parts.{ringsFrom, Ascends}
+use Rattle.chart.specs.Stages.{anyOpen}
+use Rattle.chart.proofs.Rings.{ascends-step, end-bound, rings-step, rings-end}
 use Rattle.chart.proofs.frame.joins_open.Statement.{statement}
 use Rattle.chart.proofs.frame.joins_open.Tie as tie
 

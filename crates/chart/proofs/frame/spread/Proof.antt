@@ -1,6 +1,6 @@
 -- `chart::frame::spread` meets its contract, by those of `greatest` and `least`.
-use Rattle.chart.specs.Frame.{spread}
 use borrow.Author.Needs.{needs}
+use Rattle.chart.specs.Frame.{spread}
 use Rattle.chart.proofs.frame.spread.Statement.{statement}
 use Rattle.chart.proofs.frame.spread.Tie as tie
 

@@ -1,8 +1,6 @@
 -- `chart::prepare::move_ring` meets its contract, by those of `read` and `unroll`: the list has room for just the ring's points.
-use Rattle.chart.proofs.Preparing.{ring-moved}
-use Rattle.chart.specs.Stages.{movedBlock}
-use native.Mathlib.Omega.{arith}
 use borrow.Author.Needs.{needs}
+use Rattle.chart.proofs.Preparing.{ring-moved}
 use Rattle.chart.proofs.prepare.move_ring.Statement.{statement}
 use Rattle.chart.proofs.prepare.move_ring.Tie as tie
 

@@ -1,11 +1,11 @@
 -- `chart::prepare::prepare` meets its contract. The invariant: the rings of the blocks before `at` are moved and noted, and those left fill the rest of the list.
-use Rattle.chart.proofs.Preparing.{Prepared, none-prepared, block-within, part-within, ring-room, same-size, ring-prepared, all-moved, all-parted}
+use mathlib.Core.Path.{_≡_, refl, _∙_}
+use Prim.Native.Nat.{_+_, _*_, _-_, _≤_, _<_}
 use native.Mathlib.Omega.{arith}
+use lib.ListN.{length, drop}
 use borrow.Author.Needs.{needs}
 use Rattle.chart.specs.Stages.{movedBlocks}
-use lib.ListN.{length, drop}
-use mathlib.Core.Path.{_≡_, refl, sym, ap, _∙_}
-use Prim.Native.Nat.{_+_, _*_, _-_, _≤_, _<_}
+use Rattle.chart.proofs.Preparing.{Prepared, none-prepared, block-within, part-within, ring-room, same-size, ring-prepared, all-moved, all-parted}
 use Rattle.chart.proofs.prepare.prepare.Statement.{statement}
 use Rattle.chart.proofs.prepare.prepare.Tie as tie
 

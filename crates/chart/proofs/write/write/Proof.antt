@@ -1,18 +1,16 @@
-use Rattle.chart.proofs.Counting.{written-room}
-use lib.Ieee.{nan}
-use mathlib.Core.Path.{_≡_, ap}
-use lib.ListN.{length, drop, length-set}
 -- `chart::write::write` is `writtenPoint` on every point. The invariant: of the points to be written the first k are.
-use native.Mathlib.Omega.{arith}
-use borrow.Author.Needs.{needs}
-use Rattle.chart.specs.Chart.{writtenPoint}
-use Rattle.rings.proofs.Pairs.{pairs-step, pairs-end}
-use Rattle.rings.proofs.InPlace.{Written, none-written, point-written, all-filled}
-use Rattle.sheet.specs.Content.{pairs}
-use lib.ListN.{drop, length-set}
 use mathlib.Core.List.{map}
-use mathlib.Core.Path.{ap}
+use mathlib.Core.Path.{_≡_, ap}
 use Prim.Native.Nat.{_*_, _-_, _≤_}
+use native.Mathlib.Omega.{arith}
+use lib.Ieee.{nan}
+use lib.ListN.{length, drop, length-set}
+use borrow.Author.Needs.{needs}
+use Rattle.sheet.specs.Content.{pairs}
+use Rattle.rings.proofs.InPlace.{Written, none-written, point-written, all-filled}
+use Rattle.rings.proofs.Pairs.{pairs-step, pairs-end}
+use Rattle.chart.specs.Chart.{writtenPoint}
+use Rattle.chart.proofs.Counting.{written-room}
 use Rattle.chart.proofs.write.write.Statement.{statement}
 use Rattle.chart.proofs.write.write.Tie as tie
 
