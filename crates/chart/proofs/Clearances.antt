@@ -7,10 +7,9 @@ use lib.Ieee.{Float, inf, binary64, fits, isNan}
 use lib.Ieee.Fits.{inf-fits}
 use Rattle.leaves.specs.Bounds.{smallerOf}
 use Rattle.leaves.proofs.Choices.{Clear, smaller-keeps, smaller-number}
-use Rattle.leaves.proofs.Folds.{All, all-of, fold-keeps, fold-perm, least-perm}
+use Rattle.leaves.proofs.Folds.{All, all-of, fold-keeps, fold-perm, least-perm, all-append}
 use Rattle.leaves.proofs.Hypotenuses.{hypot-clear}
 use Rattle.sheet.specs.Content.{Point}
-use Rattle.sheet.proofs.Reading.{all-append}
 use Rattle.rings.specs.Segments.{Segment, segments}
 use Rattle.rings.specs.Clearance.{copy, residual, distance, nearer}
 use Rattle.chart.specs.Chart.{clearance}

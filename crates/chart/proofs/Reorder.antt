@@ -2,10 +2,8 @@
 -- Here the chart. The same ring blocks in another order, all else in the call the same: the layout reads, the blocks are those, and the status, the point, the clearance and the count do not change, whether
 -- the sheet is refused or not.
 use mathlib.Core.Path.{_≡_, sym, ap, ap₂, _∙_}
-use mathlib.Core.Bool.{cond}
 use mathlib.Core.List.{List, _++_, map, flatten, List·Permᴰ}
 use Prim.Native.Nat.{ℕ}
-use lib.Dec.{eqb}
 use lib.ListN.{length}
 use lib.Ieee.{Float}
 use Rattle.leaves.proofs.Folds.{All}
@@ -15,20 +13,19 @@ use Rattle.sheet.specs.Checks.{first, layoutChecks}
 use Rattle.sheet.proofs.BlockOrder.{its-blocks, its-layout, its-rings, its-sheet, rings-clear, whole, withRings}
 use Rattle.sheet.proofs.Checked.{first-passed, layout-numbered}
 use Rattle.sheet.proofs.Reading.{ClearPoint}
-use Rattle.chart.specs.Answer.{Numbers, refused}
+use Rattle.chart.specs.Answer.{Numbers}
 use Rattle.chart.specs.Chart.{answered, chosen, frame, chartOf}
+use Rattle.chart.specs.Stages.{settled}
 use Rattle.chart.proofs.AnyOrder.{same-answer, same-later}
 use Rattle.chart.proofs.Outcomes.{chart-checks, chart-numbers, laterChecks}
 
 -- ---- the numbers of a sheet's content
 
-abbrev settled : ℕ → Numbers → Numbers
-settled refusal answer = cond (eqb refusal 0) answer (refused refusal)
-
-abbrev numbersOf : Sheet → ℕ → ℕ → Numbers
+abbrev pub numbersOf : Sheet → ℕ → ℕ → Numbers
 numbersOf s phase room = settled (first (laterChecks s phase room)) (answered (frame s phase) phase (chosen s phase))
 
 content-numbers : (s : List ℕ) → first (layoutChecks s) ≡ 0 → (phase : ℕ) (out : List Float) → chartOf s phase out .numbers ≡ numbersOf (sheetOf s) phase (length out)
+unfolding settled
 content-numbers s reads phase out =
     chart-numbers s phase out
     ∙ ap (λ (r : ℕ). settled r (answered (frame (sheetOf s) phase) phase (chosen (sheetOf s) phase)))

@@ -2,7 +2,7 @@
 -- The steps need to commute only at the states that the fold can reach, which P holds of, and at the list's elements, which Q holds of.
 use mathlib.Core.Path.{_≡_, refl, ap, _∙_, subst}
 use mathlib.Core.Bool.{Bool, true, false, _||_}
-use mathlib.Core.List.{List, [], _∷_, foldl, List·Permᴰ, List·Permᴰ·nil, List·Permᴰ·cons, List·Permᴰ·swap, List·Permᴰ·trans}
+use mathlib.Core.List.{List, [], _∷_, _++_, foldl, List·Permᴰ, List·Permᴰ·nil, List·Permᴰ·cons, List·Permᴰ·swap, List·Permᴰ·trans}
 use Prim.Native.Nat.{ℕ, _+_}
 use native.Mathlib.Nat.{add-right-comm}
 use lib.Dec.{T}
@@ -19,6 +19,10 @@ All Q (x ∷ xs) = Q x × All Q xs
 pub all-of : {A : Type 0} (Q : A → Type 0) → ((a : A) → Q a) → (xs : List A) → All Q xs
 all-of Q h [] = tt
 all-of Q h (x ∷ xs) = (h x, all-of Q h xs)
+
+pub all-append : {A : Type 0} (Q : A → Type 0) (xs ys : List A) → All Q xs → All Q ys → All Q (xs ++ ys)
+all-append Q [] ys p q = q
+all-append Q (x ∷ xs) ys p q = (p .0, all-append Q xs ys (p .1) q)
 
 pub all-perm : {A : Type 0} (Q : A → Type 0) {xs ys : List A} → List·Permᴰ xs ys → All Q xs → All Q ys
 all-perm Q List·Permᴰ·nil h = h

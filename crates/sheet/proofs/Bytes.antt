@@ -1,14 +1,11 @@
--- Big-endian bytes, one byte at a time, and a NaN's pattern, which stands for `nan`.
-use mathlib.Core.Path.{_≡_, refl, sym, ap, _∙_}
-use mathlib.Core.Bool.{true, true≢false}
+-- Big-endian bytes, one byte at a time.
+use mathlib.Core.Path.{_≡_, refl, ap, _∙_}
 use mathlib.Core.List.{List, [], _∷_, foldl, foldl-append}
 use Prim.Native.Nat.{ℕ, suc, _+_, _*_, _≤_, _<_}
 use native.Mathlib.Nat.{add-zero}
 use native.Mathlib.Omega.{arith}
 use lib.ListN.{length, getD, take, drop, length-drop}
 use lib.Seq.{take-suc, drop-drop, getD-drop}
-use lib.Ieee.{Float, nan, inf, fin, binary64, isNan, nanBits, ofBits}
-use lib.Ieee.Bits.{nanBits-is}
 use borrow.Author.Tests.{lt-ltb, le-ltb}
 use Rattle.leaves.specs.Constants.{zero as plusZero}
 use Rattle.sheet.specs.Layout.{big, numberOf, number}
@@ -48,14 +45,3 @@ number-short s h = rw (lt-ltb (length s) 8 h)
 pub number-whole : (s : List ℕ) → 8 ≤ length s → number s ≡ numberOf (big (take 8 s))
 unfolding number
 number-whole s h = rw (le-ltb (length s) 8 h)
-
--- ---- patterns
-
-is-nan : (x : Float) → isNan x ≡ true → x ≡ nan
-unfolding isNan
-is-nan nan e = refl
-is-nan (inf s) e = absurd (true≢false (sym e))
-is-nan (fin s m k) e = absurd (true≢false (sym e))
-
-pub nan-pattern : (bits : ℕ) → nanBits binary64 bits ≡ true → ofBits binary64 bits ≡ nan
-nan-pattern bits e = is-nan (ofBits binary64 bits) (sym (nanBits-is binary64 bits) ∙ e)

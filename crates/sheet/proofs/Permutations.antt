@@ -4,9 +4,8 @@ use mathlib.Core.Bool.{Bool, true, false, _||_}
 use mathlib.Core.List.{List, [], _∷_, _++_, map, flatten, append-assoc, List·Permᴰ, List·Permᴰ·nil, List·Permᴰ·cons, List·Permᴰ·swap, List·Permᴰ·trans, List·Permᴰ·append-comm, Permᴰ·refl, Permᴰ·append-left, Permᴰ·append-right}
 use Prim.Native.Nat.{suc}
 use lib.ListN.{length}
-use Rattle.leaves.proofs.Folds.{All}
+use Rattle.leaves.proofs.Folds.{All, all-append}
 use Rattle.sheet.specs.Lists.{anyOf}
-use Rattle.sheet.proofs.Reading.{all-append}
 
 pub map-perm : {A B : Type 0} (f : A → B) {xs ys : List A} → List·Permᴰ xs ys → List·Permᴰ (map f xs) (map f ys)
 map-perm f List·Permᴰ·nil = List·Permᴰ·nil

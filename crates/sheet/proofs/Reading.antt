@@ -1,7 +1,7 @@
 -- What is read from bytes, whatever they are, is a value that the format holds and is not -0. A NaN may be read.
 use mathlib.Core.Path.{_≡_, refl, sym, ap, _∙_, subst}
 use mathlib.Core.Bool.{Bool, true, false, not, cond}
-use mathlib.Core.List.{List, [], _∷_, _++_, flatMap}
+use mathlib.Core.List.{List, flatMap}
 use Prim.Native.Nat.{ℕ, zero, suc, _+_, _*_, _/_, _%_, _^_, _<_}
 use native.Mathlib.Nat.{lt-irrefl, lt-of-lt-of-le, le-add-right, mul-pos, zero-mul}
 use native.Mathlib.Omega.{arith}
@@ -15,7 +15,7 @@ use lib.Ieee.Fits.{down-pos}
 use borrow.Author.Tests.{eqb-false}
 use Rattle.leaves.specs.Constants.{zero as plusZero}
 use Rattle.leaves.proofs.Choices.{Clear}
-use Rattle.leaves.proofs.Folds.{All}
+use Rattle.leaves.proofs.Folds.{All, all-append}
 use Rattle.leaves.proofs.Order.{minusZero}
 use Rattle.sheet.specs.Content.{Point, ringPoints}
 use Rattle.sheet.specs.Layout.{big, numberOf, number, numbers, points, coedge, coedges, ring}
@@ -85,10 +85,6 @@ points-clear : (n : ℕ) (s : List ℕ) → All ClearPoint (points n s)
 unfolding points
 points-clear zero s = tt
 points-clear (suc n) s = ((number-clear s, number-clear (drop 8 s)), points-clear n (drop 16 s))
-
-pub all-append : {A : Type 0} (P : A → Type 0) (xs ys : List A) → All P xs → All P ys → All P (xs ++ ys)
-all-append P [] ys p q = q
-all-append P (x ∷ xs) ys p q = (p .0, all-append P xs ys (p .1) q)
 
 coedges-clear : (n : ℕ) (s : List ℕ) → All ClearPoint (ringPoints (coedges n s))
 unfolding coedges coedge ringPoints flatMap

@@ -4,7 +4,7 @@ use mathlib.Core.Bool.{Bool, not}
 use lib.Dec.{T}
 use lib.Ieee.{div, ofBits}
 use borrow.Author.Needs.{needs}
-use Rattle.vectors.proofs.Patterns.{nan-pattern}
+use Rattle.leaves.proofs.Patterns.{nan-pattern}
 use Rattle.vectors.proofs.float.Statement.{statement}
 use Rattle.vectors.proofs.float.Tie as tie
 

@@ -8,7 +8,7 @@ use lib.Ieee.Compare.{differs-from-itself}
 use denote.Floats.{passes}
 use borrow.Author.Needs.{needs}
 use borrow.Author.Tests.{eq-eqb, eqb-true}
-use Rattle.vectors.proofs.Patterns.{nan-pattern, pattern-of-nan, equals-itself}
+use Rattle.leaves.proofs.Patterns.{nan-pattern, pattern-of-nan, equals-itself}
 use Rattle.vectors.proofs.same.Statement.{statement}
 use Rattle.vectors.proofs.same.Tie as tie
 

@@ -5,7 +5,7 @@ use lib.Dec.{T}
 use lib.Ieee.{binary64, div}
 use lib.Ieee.Bits.{nanBits-above}
 use borrow.Author.Tests.{eq-eqb, ne-eqb, lt-ltb, le-ltb}
-use Rattle.sheet.proofs.Bytes.{nan-pattern}
+use Rattle.leaves.proofs.Patterns.{nan-pattern}
 use Rattle.sheet.specs.Layout.{numberOf}
 use Rattle.sheet.proofs.fields.float.Statement.{statement}
 use Rattle.sheet.proofs.fields.float.Tie as tie

@@ -1,2 +1,0 @@
--- Laws about the numbers of the vectors.
-pub mod Patterns
