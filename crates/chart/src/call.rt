@@ -47,13 +47,14 @@ fn point_numbers(s: &[u8]) -> usize
     let mut total = 0usize;
     let mut k: u8 = 0;
     while k < count {
-        total += 34 * (sheet::byte_at(s, at) as usize);
+        total += sheet::COEDGE_NUMBERS * (sheet::byte_at(s, at) as usize);
         at += sheet::block_size(s, at);
         k += 1;
     }
     total
 }
 
+// The chosen grid point turned back: u = least + p.u x scale, v = least + p.v x scale - phase.
 fn answer(frame: Frame, phase: u32, best: Candidate) -> Answer
     ensures { λ r. ⌜ (paper r ≡ answered frame phase best) × (isPoint r ≡ true) ⌝ }
 {
@@ -88,11 +89,12 @@ fn chosen_over(f: Frame, sense: u8, points: &[f64], ends: &[usize], normal: &mut
     choose(f, sense, normal, ends)
 }
 
+// The same, over a list of its own that has room for the points of any sheet that passes check 6.
 fn chosen(f: Frame, sense: u8, points: &[f64], ends: &[usize]) -> Candidate
     requires { ⌜ Packed (now ends) (now points) × (length (now points) ≤ 4352) ⌝ }
     ensures { λ r. ⌜ r ≡ candidate f sense (normalisedBy f (ringsFrom 0 (now (ends .entry)) (now (points .entry)))) ⌝ }
 {
-    let mut normal = [0.0f64; 4352];
+    let mut normal = [0.0f64; sheet::MOST_NUMBERS];
     let n = points.len();
     chosen_over(f, sense, points, ends, &mut normal[..n])
 }
@@ -168,7 +170,7 @@ pub fn chart(s: &[u8], phase: u32, points: &mut [f64]) -> Answer
         return Answer::Refused(9);
     }
     let count = sheet::byte_at(s, 7) as usize;
-    let mut moved = [0.0f64; 4352];
-    let mut ends = [0usize; 16];
+    let mut moved = [0.0f64; sheet::MOST_NUMBERS];
+    let mut ends = [0usize; sheet::MOST_RINGS];
     chart_over(s, phase, &mut moved[..n], &mut ends[..count], points)
 }

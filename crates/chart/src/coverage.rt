@@ -60,6 +60,7 @@ pub(crate) fn fill(frame: Frame, points: &[f64], ends: &[usize], crossings: &mut
     }
 }
 
+// Whether the crossings are odd, either sign.
 fn is_odd(n: i64) -> bool
     ensures { λ r. ⌜ r ≡ oddℤ n ⌝ }
 {
@@ -79,6 +80,7 @@ fn on_side(sense: u8, n: i64) -> bool
     }
 }
 
+// Whether a grid point with these crossings is covered.
 pub(crate) fn is_covered(band: bool, sense: u8, n: i64) -> bool
     ensures { λ r. ⌜ r ≡ coveredBy band sense n ⌝ }
 {

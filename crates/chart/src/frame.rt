@@ -41,6 +41,7 @@ fn any_goes_around(points: &[f64], ends: &[usize]) -> bool
     false
 }
 
+// A torus band: kind 4 with a ring that goes around.
 fn is_band(kind: u8, points: &[f64], ends: &[usize]) -> bool
     requires { ⌜ Ascends 0 (now ends) (length (now points)) ⌝ }
     ensures { λ r. ⌜ r ≡ bandOf kind (ringsFrom 0 (now (ends .entry)) (now (points .entry))) ⌝ }
@@ -52,6 +53,7 @@ fn is_band(kind: u8, points: &[f64], ends: &[usize]) -> bool
     }
 }
 
+// Kinds 1, 2, or a band.
 fn is_periodic(kind: u8, band: bool) -> bool
     ensures { λ r. ⌜ r ≡ periodicOf kind band ⌝ }
 {
@@ -64,6 +66,7 @@ fn is_periodic(kind: u8, band: bool) -> bool
     }
 }
 
+// Periodic caps the u scale at TAU.
 fn capped(periodic: bool, scale: f64) -> f64
     ensures { λ r. ⌜ r ≡ cappedAt periodic scale ⌝ }
 {
@@ -74,6 +77,7 @@ fn capped(periodic: bool, scale: f64) -> f64
     }
 }
 
+// Greatest minus least u, or v at axis 1.
 fn spread(axis: usize, points: &[f64]) -> f64
     ensures { λ r. ⌜ r ≡ spreadOf axis (pairs (now (points .entry))) ⌝ }
 {
@@ -96,6 +100,7 @@ fn framed_by(periodic: bool, band: bool, points: &[f64]) -> Frame
     }
 }
 
+// The frame of the rings that stand in `points`, one behind the other.
 pub(crate) fn frame_of(kind: u8, points: &[f64], ends: &[usize]) -> Frame
     requires { ⌜ Ascends 0 (now ends) (length (now points)) ⌝ }
     ensures { λ r. ⌜ r ≡ framed (periodicOf kind (bandOf kind (ringsFrom 0 (now (ends .entry)) (now (points .entry))))) (bandOf kind (ringsFrom 0 (now (ends .entry)) (now (points .entry)))) (pairs (now (points .entry))) ⌝ }

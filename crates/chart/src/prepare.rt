@@ -36,7 +36,7 @@ pub(crate) fn prepare(
     let mut k = 0;
     while k < ends.len() {
         let end = at + sheet::block_size(s, at);
-        let to = from + 34 * (sheet::byte_at(s, at) as usize);
+        let to = from + sheet::COEDGE_NUMBERS * (sheet::byte_at(s, at) as usize);
         move_ring(kind, phase, &s[at..end], &mut points[from..to]);
         ends[k] = to;
         from = to;

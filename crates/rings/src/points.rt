@@ -32,14 +32,18 @@ pub fn read(block: &[u8], points: &mut [f64])
     ensures { λ _. ⌜ now (points .exit) ≡ over (flat (ringPoints (ring (now (block .entry))))) (now (points .entry)) ⌝ }
 {
     let count = sheet::byte_at(block, 0) as usize;
-    if points.len() < 34 * count {
+    if points.len() < sheet::COEDGE_NUMBERS * count {
         return;
     }
     let mut k = 0;
     while k < count {
-        let from = 34 * k;
-        let to = from + 34;
-        read_coedge(block, 9 + 280 * k, &mut points[from..to]);
+        let from = sheet::COEDGE_NUMBERS * k;
+        let to = from + sheet::COEDGE_NUMBERS;
+        read_coedge(
+            block,
+            sheet::FIRST_POINT + sheet::COEDGE_SIZE * k,
+            &mut points[from..to],
+        );
         k += 1;
     }
 }

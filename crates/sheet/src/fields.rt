@@ -16,6 +16,14 @@ pub const COEDGE_SIZE: usize = 280;
 
 pub const COEDGE_POINTS: usize = 17;
 
+// Where a block's first point stands, behind the count and the first deviation.
+pub const FIRST_POINT: usize = 9;
+
+// How many numbers the points of a coedge are, and those of a whole sheet at most.
+pub const COEDGE_NUMBERS: usize = 34;
+
+pub const MOST_NUMBERS: usize = 4352;
+
 // The byte at a place; 0 past the end.
 pub fn byte_at(s: &[u8], at: usize) -> u8
     ensures { λ r. ⌜ r ≡ getD (now (s .entry)) at 0 ⌝ }

@@ -8,9 +8,12 @@ mod walk;
 
 pub use checks::refusal;
 pub use fields::BLOCK_HEAD;
+pub use fields::COEDGE_NUMBERS;
 pub use fields::COEDGE_POINTS;
 pub use fields::COEDGE_SIZE;
+pub use fields::FIRST_POINT;
 pub use fields::MOST_COEDGES;
+pub use fields::MOST_NUMBERS;
 pub use fields::MOST_RINGS;
 pub use fields::block_size;
 pub use fields::byte_at;

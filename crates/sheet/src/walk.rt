@@ -1,7 +1,7 @@
 // The checks that walk over the ring blocks and their numbers. A walk goes from block to block by the
 // coedge counts alone, so it reaches every block whatever stands in it.
 use crate::fields::BLOCK_HEAD;
-use crate::fields::COEDGE_POINTS;
+use crate::fields::COEDGE_NUMBERS;
 use crate::fields::COEDGE_SIZE;
 use crate::fields::MOST_COEDGES;
 use crate::fields::block_size;
@@ -50,7 +50,7 @@ fn coedge_wrong(block: &[u8], at: usize) -> bool
     let deviation = number(block, at);
     if 0.0 <= deviation {
         if deviation < DEVIATION_LIMIT {
-            return any_beyond(COORDINATE_LIMIT, block, at + 8, 2 * COEDGE_POINTS);
+            return any_beyond(COORDINATE_LIMIT, block, at + 8, COEDGE_NUMBERS);
         }
     }
     true

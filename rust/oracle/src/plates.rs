@@ -457,10 +457,11 @@ impl Plate {
     }
 }
 
-/// Each place's bits times its place from 1 on, added up modulo 2^64.
+/// The bits of each place k, counted from 0, times 2k + 1, added up modulo 2^64.
+/// The weights are odd, so that a change of one bit anywhere changes the sum.
 fn written_sum(list: &[u64]) -> u64 {
-    let places = (1u64..).zip(list);
-    places.fold(0, |sum, (place, bits)| {
-        sum.wrapping_add(place.wrapping_mul(*bits))
+    let odd_numbers = (1u64..).step_by(2);
+    odd_numbers.zip(list).fold(0, |sum, (weight, bits)| {
+        sum.wrapping_add(weight.wrapping_mul(*bits))
     })
 }

@@ -318,16 +318,17 @@ fn lines_show_the_answer_and_the_list() {
         .coedges()
         .flat_map(|c| c.points.concat())
         .collect::<Vec<f64>>();
-    let sum: u128 = (1u128..)
+    // The exact sum, which 128 bits hold.
+    let sum: u128 = (0u128..)
         .zip(points)
-        .map(|(n, x)| n * u128::from(x.to_bits()))
+        .map(|(k, x)| (2 * k + 1) * u128::from(x.to_bits()))
         .sum();
     let written = sum % (1 << 64);
     assert_eq!(
         line("plate A"),
         format!("plate A: 0 {half} {half} 0000000000000000 {half} 961 {written:016X}")
     );
-    // 1 + 2 + ... + 272 places of the number that was there.
-    let kept = (272 * 273 / 2 * 0x40C8_1C80_0000_0000u128) % (1 << 64);
+    // The first 272 odd numbers, which make 272 squared, times what was there.
+    let kept = (272 * 272 * 0x40C8_1C80_0000_0000u128) % (1 << 64);
     assert_eq!(line("plate C"), format!("plate C: 14 {kept:016X}"));
 }

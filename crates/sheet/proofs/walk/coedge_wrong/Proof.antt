@@ -12,9 +12,6 @@ number-requires c κs = search needs
 add-any-beyond : tie.Need-add-any-beyond
 add-any-beyond c = search needs
 
-mul-any-beyond : tie.Need-mul-any-beyond
-mul-any-beyond c = search needs
-
 any-beyond-requires : tie.Need-any-beyond-requires
 any-beyond-requires c κs = search needs
 
@@ -33,7 +30,6 @@ coedge-wrong-spec =
     (tie.spec
     number-requires
     add-any-beyond
-    mul-any-beyond
     any-beyond-requires
     returns
     returns-2

@@ -1,0 +1,6 @@
+-- Laws about the numbers and the lists of recorded calls.
+pub mod Bytes
+pub mod Digits
+pub mod Heads
+pub mod Numbers
+pub mod Places

@@ -1,0 +1,5 @@
+-- What the contracts of `cases` cite.
+pub mod BigEndian
+pub mod Hexadecimal
+pub mod Places
+pub mod Record
