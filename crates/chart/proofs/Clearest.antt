@@ -17,6 +17,7 @@ use Rattle.chart.specs.Grid.{upFrom, lines, part, gridOf}
 use Rattle.chart.specs.Search.{start, better, counted, visit, column, search}
 use Rattle.chart.specs.Demand.{OnGrid, After, trues, coveredCount, NoneServes, Clearest, candidateAt}
 use Rattle.chart.specs.declared.candidate.Candidate.{Candidate}
+use Rattle.chart.proofs.Visits.{visit-is}
 
 -- ---- a walk over n numbers from i on
 
@@ -98,8 +99,8 @@ trues-append (false ∷ xs) ys = trues-append xs ys
 
 module _ (cover : ℕ → ℕ → Bool) (clear : ℕ → ℕ → Float) where
   visit-count : (i j : ℕ) (c : Candidate) → visit cover clear i c j .count ≡ c .count + trues (cover i j ∷ [])
-  unfolding visit better counted trues
-  visit-count i j c = by (cover i j) (lt (c .clearance) (clear i j))
+  unfolding better counted trues
+  visit-count i j c = ap (λ (z : Candidate). z .count) (visit-is cover clear i j c) ∙ by (cover i j) (lt (c .clearance) (clear i j))
     where
       by : (b t : Bool) → cond b (counted (cond t (record { u = part i; v = part j; clearance = clear i j; count = c .count }) c)) c .count ≡ c .count + trues (b ∷ [])
       by true true = refl
@@ -193,8 +194,8 @@ module _ (cover : ℕ → ℕ → Bool) (clear : ℕ → ℕ → Float) where
         }
 
     visit-reaches : (i j : ℕ) (c : Candidate) → OnGrid i j → Reached i j c → Reached i (j + 1) (visit cover clear i c j)
-    unfolding visit better
-    visit-reaches i j c on r = pass i j c (cover i j) (lt (c .clearance) (clear i j)) on refl refl r
+    unfolding better
+    visit-reaches i j c on r = rw (visit-is cover clear i j c) (pass i j c (cover i j) (lt (c .clearance) (clear i j)) on refl refl r)
 
     column-reaches : (i : ℕ) (c : Candidate) → 1 ≤ i → i ≤ 31 → Reached i 1 c → Reached (i + 1) 1 (column cover clear c i)
     unfolding column lines

@@ -1,7 +1,7 @@
 -- The search along the grid, one grid point after the other: what is left of a column from j on, and of the grid from i on; that a grid point passes the candidate on, counted where it is covered;
 -- and that a clearance may be given as the larger of itself and the candidate's.
-use mathlib.Core.Path.{_≡_, refl}
-use mathlib.Core.Bool.{Bool, true, false}
+use mathlib.Core.Path.{_≡_, refl, _∙_}
+use mathlib.Core.Bool.{Bool, true, false, cond}
 use mathlib.Core.List.{List, foldl}
 use Prim.Native.Nat.{ℕ, _+_, _-_, _<_, _≤_}
 use native.Mathlib.Omega.{arith}
@@ -12,7 +12,7 @@ use Rattle.leaves.proofs.Order.{lt-irrefl}
 use Rattle.sheet.specs.Content.{Point}
 use Rattle.chart.specs.Chart.{covered, clearance, candidate}
 use Rattle.chart.specs.Grid.{upFrom, lines, gridPoint}
-use Rattle.chart.specs.Search.{start, better, counted, visit, column, search}
+use Rattle.chart.specs.Search.{start, better, counted, tallied, visit, column, search}
 use Rattle.chart.specs.declared.candidate.Candidate.{Candidate}
 use Rattle.chart.specs.declared.frame.Frame.{Frame}
 use Rattle.chart.proofs.Lines.{up-step, up-end}
@@ -47,13 +47,20 @@ module _ (i j : ℕ) (x : Float) (best : Candidate) where
 
 module _ (covers : ℕ → ℕ → Bool) (clears : ℕ → ℕ → Float) where
   module _ (i j : ℕ) (best : Candidate) where
+    -- by one test
+    pub visit-is : visit covers clears i best j ≡ cond (covers i j) (counted (better i j (clears i j) best)) best
+    unfolding visit tallied
+    visit-is = by (covers i j)
+      where
+        by : (b : Bool) → cond b (counted (cond b (better i j (clears i j) best) best)) (cond b (better i j (clears i j) best) best) ≡ cond b (counted (better i j (clears i j) best)) best
+        by true = refl
+        by false = refl
+
     pub visit-covered : covers i j ≡ true → visit covers clears i best j ≡ counted (better i j (clears i j) best)
-    unfolding visit
-    visit-covered e = rw e
+    visit-covered e = visit-is ∙ rw e
 
     pub visit-passed : covers i j ≡ false → visit covers clears i best j ≡ best
-    unfolding visit
-    visit-passed e = rw e
+    visit-passed e = visit-is ∙ rw e
 
     visited-by-test : (t : Bool) → covers i j ≡ t → visit covers clears i best j .count ≤ best .count + 1
     unfolding counted

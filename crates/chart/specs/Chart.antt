@@ -128,7 +128,7 @@ unfolding lt clearanceLimit
 noneClear c = not (lt clearanceLimit (c .clearance))
 
 unfoldable pub frameChecks : Sheet → ℕ → List Check
-unfolding bandWide narrow frame joinsOpen noneClear chosen
+unfolding bandWide narrow frame joinsOpen noneClear
 frameChecks s phase =
     check 11 (bandWide (frame s phase))
     ∷ check 12 (narrow (frame s phase))
@@ -156,7 +156,7 @@ charted numbers points = record { numbers = numbers; points = points }
 
 -- "With a refusal all other result numbers are 0 and no lent list is written"; else the chart's answer, and the moved points over the front of the list, whose tail keeps its contents
 unfoldable pub outcome : ℕ → Sheet → ℕ → List Float → Charted
-unfolding answered frame chosen over written movedRings
+unfolding answered frame over written movedRings
 outcome refusal s phase out =
     cond (eqb refusal 0) (charted (answered (frame s phase) phase (chosen s phase)) (over (written phase (movedRings s phase)) out)) (charted (refused refusal) out)
 

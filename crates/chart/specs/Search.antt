@@ -15,14 +15,21 @@ unfoldable pub better : ℕ → ℕ → Float → Candidate → Candidate
 unfolding lt part
 better i j d best = cond (lt (best .clearance) d) (record { u = part i; v = part j; clearance = d; count = best .count }) best
 
--- "the result counts the covered grid points"
 unfoldable pub counted : Candidate → Candidate
 counted best = record { u = best .u; v = best .v; clearance = best .clearance; count = best .count + 1 }
 
+-- "the result counts the covered grid points": whether a grid point, covered or not and of this clearance, is counted
+abbrev pub countedPoint : Bool → Float → Bool
+countedPoint covered d = covered
+
+unfoldable pub tallied : Bool → Candidate → Candidate
+unfolding counted
+tallied counts best = cond counts (counted best) best
+
 module _ (cover : ℕ → ℕ → Bool) (clear : ℕ → ℕ → Float) where
   unfoldable pub visit : ℕ → Candidate → ℕ → Candidate
-  unfolding better counted
-  visit i best j = cond (cover i j) (counted (better i j (clear i j) best)) best
+  unfolding better tallied
+  visit i best j = tallied (countedPoint (cover i j) (clear i j)) (cond (cover i j) (better i j (clear i j) best) best)
 
   -- j from 1 to 31, inner
   unfoldable pub column : Candidate → ℕ → Candidate

@@ -45,7 +45,7 @@ normalisedBy f rings = map (map (normal (f .«least_u») (f .«least_v») (f .«
 
 -- checks 11 to 14 in a frame
 unfoldable pub stageChecks : ℕ → Frame → List (List Point) → List Check
-unfolding bandWide narrow anyOpen noneClear candidate normalisedBy
+unfolding bandWide narrow anyOpen noneClear
 stageChecks sense f rings =
     check 11 (bandWide f)
     ∷ check 12 (narrow f)
@@ -59,7 +59,7 @@ settled refusal numbers = cond (eqb refusal 0) numbers (refused refusal)
 
 -- checks 11 to 14, and the answer, of moved rings
 unfoldable pub foundIn : ℕ → ℕ → Frame → List (List Point) → Numbers
-unfolding settled first stageChecks answered candidate normalisedBy
+unfolding settled first stageChecks answered
 foundIn sense phase f rings = settled (first (stageChecks sense f rings)) (answered f phase (candidate f sense (normalisedBy f rings)))
 
 -- a sheet, a phase and an output list that pass the checks down to 9

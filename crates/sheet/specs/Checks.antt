@@ -37,8 +37,12 @@ unfoldable pub kindWrong : List ℕ → Bool
 kindWrong s = ltb 6 (kind s) || ltb 2 (sense s)
 
 -- ---- 4: "ring count 0 or above 16"
+
+abbrev pub mostRings : ℕ
+mostRings = 16
+
 unfoldable pub countWrong : List ℕ → Bool
-countWrong s = eqb (ringCount s) 0 || ltb 16 (ringCount s)
+countWrong s = eqb (ringCount s) 0 || ltb mostRings (ringCount s)
 
 -- ---- 5: "plane or ring blocks overrun the end or leave bytes over"
 
@@ -54,6 +58,9 @@ blocksWrong s = ltb (length s) (headSize (kind s)) || not (fill (ringCount s) (d
 
 -- ---- 6: "a ring with 0 coedges, or over 128 in total"
 
+abbrev pub mostCoedges : ℕ
+mostCoedges = 128
+
 unfoldable pub empty : List Coedge → Bool
 empty [] = true
 empty (c ∷ cs) = false
@@ -63,7 +70,7 @@ coedgeTotal rings = foldl (λ (n : ℕ) (r : List Coedge). n + length r) 0 rings
 
 unfoldable pub coedgesWrong : List (List Coedge) → Bool
 unfolding anyOf empty coedgeTotal
-coedgesWrong rings = anyOf empty rings || ltb 128 (coedgeTotal rings)
+coedgesWrong rings = anyOf empty rings || ltb mostCoedges (coedgeTotal rings)
 
 -- ---- 7: "not finite; or magnitude above: 2^20 chart coordinate or origin, 2 axis component; or deviation below 0 or not below 0.002"
 
