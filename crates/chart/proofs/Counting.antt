@@ -1,11 +1,11 @@
 -- How many points a sheet's rings have: seventeen a coedge, as many when they are moved, and two numbers each.
 use mathlib.Core.List.{List, [], _∷_, map, flatten, foldl}
-use mathlib.Core.Path.{_≡_, refl, sym, ap, _∙_}
+use mathlib.Core.Path.{_≡_, refl, ap, _∙_}
 use Prim.Native.Nat.{ℕ, _+_, _*_, _-_, _/_, _≤_, _<_}
-use native.Mathlib.Nat.{add-assoc, zero-add, add-zero}
 use native.Mathlib.Omega.{arith}
 use lib.Ieee.{Float}
 use lib.ListN.{length, getD, take, drop, length-append, length-map}
+use Rattle.leaves.proofs.Folds.{sum-cons}
 use Rattle.sheet.specs.Checks.{coedgeTotal}
 use Rattle.sheet.specs.Content.{Coedge, ringPoints, flat, pairs}
 use Rattle.sheet.specs.Layout.{blockSize, ring, cut, blocks, headSize, kind, ringCount, sheetOf}
@@ -16,32 +16,18 @@ use Rattle.rings.proofs.Moved.{length-moved}
 use Rattle.chart.specs.Chart.{pointCount, writtenPoint}
 use Rattle.chart.specs.Stages.{movedBlock}
 
--- ---- sums
-
-abbrev pub sumOf : {A : Type 0} → (A → ℕ) → ℕ → List A → ℕ
-sumOf {A} part n xs = foldl (λ (m : ℕ) (x : A). m + part x) n xs
-
-pub sum-from : {A : Type 0} (part : A → ℕ) (n : ℕ) (xs : List A) → sumOf part n xs ≡ n + sumOf part 0 xs
-sum-from part n [] = sym (add-zero n)
-sum-from part n (x ∷ xs) = sum-from part (n + part x) xs ∙ add-assoc n (part x) (sumOf part 0 xs) ∙ ap (λ (m : ℕ). n + m) (sym (ap (λ (m : ℕ). sumOf part m xs) (zero-add (part x)) ∙ sum-from part (part x) xs))
-
 -- ---- the points of blocks
 
 abbrev pub pointsIn : List (List ℕ) → ℕ
-pointsIn bs = sumOf (λ (r : List Coedge). length (ringPoints r)) 0 (map ring bs)
+pointsIn bs = foldl (λ (n : ℕ) (r : List Coedge). n + length (ringPoints r)) 0 (map ring bs)
 
 pub points-cons : (b : List ℕ) (bs : List (List ℕ)) → pointsIn (b ∷ bs) ≡ 17 * getD b 0 0 + pointsIn bs
-points-cons b bs =
-    ap (λ (m : ℕ). sumOf (λ (r : List Coedge). length (ringPoints r)) m (map ring bs)) (zero-add (length (ringPoints (ring b))))
-    ∙ sum-from (λ (r : List Coedge). length (ringPoints r)) (length (ringPoints (ring b))) (map ring bs)
-    ∙ ap (λ (m : ℕ). m + pointsIn bs) (ring-points-length b)
+points-cons b bs = sum-cons (λ (r : List Coedge). length (ringPoints r)) (ring b) (map ring bs) ∙ ap (λ (m : ℕ). m + pointsIn bs) (ring-points-length b)
 
 pub points-by-coedges : (bs : List (List ℕ)) → pointsIn bs ≡ 17 * coedgeTotal (map ring bs)
 unfolding coedgeTotal
 points-by-coedges [] = refl
-points-by-coedges (b ∷ bs) =
-    let n = sum-from (λ (r : List Coedge). length r) (0 + length (ring b)) (map ring bs) in
-    rw (n, ring-length b) (omega (arith, points-cons b bs, points-by-coedges bs))
+points-by-coedges (b ∷ bs) = omega (arith, sum-cons (λ (r : List Coedge). length r) (ring b) (map ring bs), ring-length b, points-cons b bs, points-by-coedges bs)
 
 -- the points from the block at a place on
 pub points-step : (s : List ℕ) (at n k : ℕ) → k < n → pointsIn (cut (n - k) (drop at s)) ≡ 17 * getD (drop at s) 0 0 + pointsIn (cut (n - (k + 1)) (drop (at + blockSize (drop at s)) s))

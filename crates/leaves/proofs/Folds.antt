@@ -1,10 +1,10 @@
 -- A fold whose steps commute is the same for every order of the list. So any-of, sums, and the least and the greatest of values none of which is -0 do not turn on the order.
 -- The steps need to commute only at the states that the fold can reach, which P holds of, and at the list's elements, which Q holds of.
-use mathlib.Core.Path.{_≡_, refl, ap, _∙_, subst}
+use mathlib.Core.Path.{_≡_, refl, sym, ap, _∙_, subst}
 use mathlib.Core.Bool.{Bool, true, false, _||_}
 use mathlib.Core.List.{List, [], _∷_, _++_, foldl, List·Permᴰ, List·Permᴰ·nil, List·Permᴰ·cons, List·Permᴰ·swap, List·Permᴰ·trans}
 use Prim.Native.Nat.{ℕ, _+_}
-use native.Mathlib.Nat.{add-right-comm}
+use native.Mathlib.Nat.{add-assoc, add-right-comm, add-zero, zero-add}
 use lib.Dec.{T}
 use lib.Ieee.{Float, Format, fits}
 use Rattle.leaves.proofs.Choices.{Clear, larger-keeps, larger-swap, smaller-keeps, smaller-swap}
@@ -65,6 +65,17 @@ any-perm {A} test d s = fold-perm-always (λ (b : Bool) (x : A). b || test x) (�
 
 pub sum-perm : {A : Type 0} (part : A → ℕ) {xs ys : List A} → List·Permᴰ xs ys → (s : ℕ) → foldl (λ (n : ℕ) (x : A). n + part x) s xs ≡ foldl (λ (n : ℕ) (x : A). n + part x) s ys
 sum-perm {A} part d s = fold-perm-always (λ (n : ℕ) (x : A). n + part x) (λ z a b. add-right-comm z (part a) (part b)) d s
+
+-- a sum from n on
+pub sum-from : {A : Type 0} (part : A → ℕ) (n : ℕ) (xs : List A) → foldl (λ (m : ℕ) (x : A). m + part x) n xs ≡ n + foldl (λ (m : ℕ) (x : A). m + part x) 0 xs
+sum-from part n [] = sym (add-zero n)
+sum-from {A} part n (x ∷ xs) =
+    sum-from part (n + part x) xs
+    ∙ add-assoc n (part x) (foldl (λ (m : ℕ) (y : A). m + part y) 0 xs)
+    ∙ ap (λ (m : ℕ). n + m) (sym (ap (λ (m : ℕ). foldl (λ (k : ℕ) (y : A). k + part y) m xs) (zero-add (part x)) ∙ sum-from part (part x) xs))
+
+pub sum-cons : {A : Type 0} (part : A → ℕ) (x : A) (xs : List A) → foldl (λ (m : ℕ) (y : A). m + part y) 0 (x ∷ xs) ≡ part x + foldl (λ (m : ℕ) (y : A). m + part y) 0 xs
+sum-cons {A} part x xs = ap (λ (m : ℕ). foldl (λ (k : ℕ) (y : A). k + part y) m xs) (zero-add (part x)) ∙ sum-from part (part x) xs
 
 -- the least and the greatest, from a start that fits
 pub least-perm : (f : Format) {xs ys : List Float} → List·Permᴰ xs ys → All (Clear f) xs → (s : Float) → T (fits f s) → foldl smallerOf s xs ≡ foldl smallerOf s ys

@@ -11,3 +11,5 @@ pub mod Checked
 -- lists in another order, and a sheet's ring blocks in another order
 pub mod Permutations
 pub mod BlockOrder
+-- how long a sheet can be
+pub mod Sizes
