@@ -224,6 +224,19 @@ fn the_committed_file_is_the_makers() {
     assert!(committed == plates_file(), "run make_plates");
 }
 
+/// What the proved program has to print is what model and original say.
+#[test]
+fn the_programs_output_is_the_oracles() {
+    let stdout = Path::new(env!("CARGO_MANIFEST_DIR")).join("../../crates/plates/stdout");
+    let expected =
+        fs::read_to_string(stdout).expect("the output that the program plates must write");
+    let lines: Vec<String> = plates()
+        .iter()
+        .map(|plate| plate.line(&plate.judged().expect("model and original agree")))
+        .collect();
+    assert_eq!(expected, lines.join("\n") + "\n");
+}
+
 #[test]
 fn names_are_short_and_told_apart() {
     let plates = plates();
