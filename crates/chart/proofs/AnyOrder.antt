@@ -6,9 +6,8 @@ use mathlib.Core.List.{List, [], _∷_, map, flatten, List·Permᴰ}
 use Prim.Native.Nat.{ℕ, _*_}
 use lib.Dec.{eqb, ltb}
 use lib.ListN.{length}
-use lib.Ieee.{inf, binary64, div, sub}
+use lib.Ieee.{inf, binary64, sub}
 use lib.Ieee.Fits.{inf-fits}
-use Rattle.leaves.specs.Constants.{tau}
 use Rattle.leaves.proofs.Choices.{Clear}
 use Rattle.leaves.proofs.Folds.{All, least-perm, greatest-perm, sum-perm}
 use Rattle.sheet.specs.Content.{Point, Coedge, Sheet, ringPoints}
@@ -21,7 +20,7 @@ use Rattle.rings.specs.Unroll.{movedRing}
 use Rattle.rings.specs.Joins.{opens, ringOpen}
 use Rattle.rings.specs.Normalise.{normal}
 use Rattle.rings.proofs.Moved.{moved-clear}
-use Rattle.chart.specs.Frame.{bandOf, periodicOf, spread, capped, framed, frameOf, bandWide, narrow}
+use Rattle.chart.specs.Frame.{bandOf, periodicOf, spread, framed, frameOf, bandWide, narrow, boxed}
 use Rattle.chart.specs.Grid.{gridPoint}
 use Rattle.chart.specs.Search.{search}
 use Rattle.chart.specs.Chart.{candidate, movedRings, frame, joinsOpen, normalised, chosen, pointCount, answered, phaseWrong, roomWrong, noneClear, frameChecks}
@@ -60,15 +59,7 @@ module _ {ps qs : List Point} (d : List·Permᴰ ps qs) (clear : All ClearPoint 
 
   framed-same : (periodic band : Bool) → framed periodic band ps ≡ framed periodic band qs
   unfolding framed
-  framed-same periodic band = λ i. record {
-    «least_u» = least-same 0 i;
-    «least_v» = least-same 1 i;
-    «scale_u» = capped periodic (spread-same 0 i);
-    «scale_v» = spread-same 1 i;
-    period = div binary64 tau (capped periodic (spread-same 0 i));
-    periodic = periodic;
-    band = band;
-  }
+  framed-same periodic band = λ i. boxed periodic band (least-same 0 i) (least-same 1 i) (spread-same 0 i) (spread-same 1 i)
 
 module _ (kind : ℕ) {rings rings′ : List (List Point)} (d : List·Permᴰ rings rings′) (clear : All (All ClearPoint) rings) where
   band-same : bandOf kind rings ≡ bandOf kind rings′

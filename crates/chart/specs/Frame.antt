@@ -27,18 +27,23 @@ unfoldable pub capped : Bool → Float → Float
 unfolding smallerOf
 capped periodic scale = cond periodic (smallerOf scale tau) scale
 
--- of the points of all rings together, periodic and band told apart
-unfoldable pub framed : Bool → Bool → List Point → Frame
-unfolding least axisOf capped spread div
-framed periodic band ps = record {
-  «least_u» = least (map (axisOf 0) ps);
-  «least_v» = least (map (axisOf 1) ps);
-  «scale_u» = capped periodic (spread 0 ps);
-  «scale_v» = spread 1 ps;
-  period = div binary64 tau (capped periodic (spread 0 ps));
+-- of a box with these least u and v and these scales, before the cap
+unfoldable pub boxed : Bool → Bool → Float → Float → Float → Float → Frame
+unfolding capped div
+boxed periodic band leastU leastV scaleU scaleV = record {
+  «least_u» = leastU;
+  «least_v» = leastV;
+  «scale_u» = capped periodic scaleU;
+  «scale_v» = scaleV;
+  period = div binary64 tau (capped periodic scaleU);
   periodic = periodic;
   band = band;
 }
+
+-- of the points of all rings together
+unfoldable pub framed : Bool → Bool → List Point → Frame
+unfolding boxed least axisOf spread
+framed periodic band ps = boxed periodic band (least (map (axisOf 0) ps)) (least (map (axisOf 1) ps)) (spread 0 ps) (spread 1 ps)
 
 unfoldable pub frameOf : ℕ → List (List Point) → Frame
 unfolding framed periodicOf bandOf flatten

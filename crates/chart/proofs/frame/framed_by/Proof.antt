@@ -1,6 +1,6 @@
 -- `chart::frame::framed_by` meets its contract, by those of what it calls.
 use borrow.Author.Needs.{needs}
-use Rattle.chart.specs.Frame.{framed}
+use Rattle.chart.specs.Frame.{framed, boxed}
 use Rattle.chart.proofs.frame.framed_by.Statement.{statement}
 use Rattle.chart.proofs.frame.framed_by.Tie as tie
 
@@ -20,7 +20,7 @@ spread-requires-2 : tie.Need-spread-requires-2
 spread-requires-2 c κs = search needs
 
 returns : tie.Need-returns
-unfolding framed
+unfolding framed boxed
 returns c =
     rw (c .before .before .before .capped .ensures, c .before .before .before .before .spread .ensures, c .before .before .least .ensures, c .before .least2 .ensures, c .spread2 .ensures)
 
