@@ -23,6 +23,29 @@ use Rattle.chart.specs.Search.{search}
 use Rattle.chart.specs.declared.frame.Frame.{Frame}
 use Rattle.chart.specs.declared.candidate.Candidate.{Candidate}
 
+-- ---- rules 1 to 5, of a sheet's content at a phase
+
+module _ (s : Sheet) (phase : ℕ) where
+  -- 1 and 2: the points of each ring, turned and moved, in file order
+  unfoldable pub movedRings : List (List Point)
+  unfolding movedRing ringPoints
+  movedRings = map (λ (r : List Coedge). movedRing (s .kind) phase (ringPoints r)) (s .rings)
+
+  -- 3: box, band and periodic, and rule 5's P
+  unfoldable pub frame : Frame
+  unfolding frameOf movedRings
+  frame = frameOf (s .kind) movedRings
+
+  -- 4, for check 13: whether any ring has a join above 1e-4
+  unfoldable pub joinsOpen : Bool
+  unfolding anyOf ringOpen opens movedRing ringPoints frame
+  joinsOpen = anyOf (λ (r : List Coedge). ringOpen (frame .periodic) (frame .«scale_u») (frame .«scale_v») (opens r) (movedRing (s .kind) phase (ringPoints r))) (s .rings)
+
+  -- 5: "Normalise: (coordinate − least)/scale"
+  unfoldable pub normalised : List (List Point)
+  unfolding normal frame movedRings
+  normalised = map (map (normal (frame .«least_u») (frame .«least_v») (frame .«scale_u») (frame .«scale_v»))) movedRings
+
 -- ---- rules 7 to 9 see the normalised rings, the frame and the sense, and nothing else
 
 -- 7: "crossings": the number of rings with `inside`, or the sum of the winding over all rings
@@ -30,6 +53,7 @@ unfoldable pub crossings : Frame → List (List Point) → Point → ℤ
 unfolding crossing
 crossings f rings p = foldl (λ (n : ℤ) (ring : List Point). n +ℤ crossing (f .periodic) (f .period) p ring) (pos 0) rings
 
+-- "Covered: odd"
 unfoldable pub oddℤ : ℤ → Bool
 oddℤ n = eqb (natAbs n % 2) 1
 
@@ -51,33 +75,16 @@ unfoldable pub clearance : Frame → List (List Point) → Point → Float
 unfolding nearer
 clearance f rings p = foldl (nearer (f .periodic) (f .period) p) (inf false) rings
 
--- 9
+-- 9, over rule 6's grid
 unfoldable pub candidate : Frame → ℕ → List (List Point) → Candidate
 unfolding search covered clearance gridPoint
 candidate f sense rings = search (λ (i j : ℕ). covered f sense rings (gridPoint i j)) (λ (i j : ℕ). clearance f rings (gridPoint i j))
 
--- ---- rules 1 to 5 of a sheet's content
+-- ---- the grid point that a sheet's rings give
 
-module _ (s : Sheet) (phase : ℕ) where
-  unfoldable pub movedRings : List (List Point)
-  unfolding movedRing ringPoints
-  movedRings = map (λ (r : List Coedge). movedRing (s .kind) phase (ringPoints r)) (s .rings)
-
-  unfoldable pub frame : Frame
-  unfolding frameOf movedRings
-  frame = frameOf (s .kind) movedRings
-
-  unfoldable pub joinsOpen : Bool
-  unfolding anyOf ringOpen opens movedRing ringPoints frame
-  joinsOpen = anyOf (λ (r : List Coedge). ringOpen (frame .periodic) (frame .«scale_u») (frame .«scale_v») (opens r) (movedRing (s .kind) phase (ringPoints r))) (s .rings)
-
-  unfoldable pub normalised : List (List Point)
-  unfolding normal frame movedRings
-  normalised = map (map (normal (frame .«least_u») (frame .«least_v») (frame .«scale_u») (frame .«scale_v»))) movedRings
-
-  unfoldable pub chosen : Candidate
-  unfolding candidate frame normalised
-  chosen = candidate frame (s .sense) normalised
+unfoldable pub chosen : Sheet → ℕ → Candidate
+unfolding candidate frame normalised
+chosen s phase = candidate (frame s phase) (s .sense) (normalised s phase)
 
 -- how many points the rings have
 unfoldable pub pointCount : Sheet → ℕ
