@@ -2,5 +2,4 @@
 pub mod Bytes
 pub mod Digits
 pub mod Heads
-pub mod Numbers
 pub mod Places

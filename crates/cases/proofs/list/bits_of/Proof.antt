@@ -3,7 +3,7 @@ use lib.Ieee.{toBits}
 use lib.Ieee.Compare.{differs-from-itself}
 use denote.Floats.{passes}
 use borrow.Author.Needs.{needs}
-use Rattle.cases.proofs.Numbers.{equals-itself}
+use Rattle.leaves.proofs.Patterns.{equals-itself}
 use Rattle.cases.proofs.list.bits_of.Statement.{statement}
 use Rattle.cases.proofs.list.bits_of.Tie as tie
 

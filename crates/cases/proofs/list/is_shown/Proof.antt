@@ -5,7 +5,7 @@ use lib.Ieee.Compare.{differs-from-itself}
 use denote.Floats.{passes, is-true}
 use borrow.Author.Needs.{needs}
 use Rattle.cases.specs.Places.{shown}
-use Rattle.cases.proofs.Numbers.{equals-itself}
+use Rattle.leaves.proofs.Patterns.{equals-itself}
 use Rattle.cases.proofs.list.is_shown.Statement.{statement}
 use Rattle.cases.proofs.list.is_shown.Tie as tie
 
