@@ -7,7 +7,7 @@ use Rattle.leaves.specs.Constants.{zero}
 use Rattle.leaves.specs.Hypot.{keyOf, hypotOf}
 use Rattle.sheet.specs.Content.{Point, point}
 use Rattle.rings.specs.Coverage.{gained, middle}
-use Rattle.rings.specs.Segments.{Segment, segment, segments}
+use Rattle.rings.specs.Segments.{Between, Segment, segment, segments}
 use Rattle.rings.specs.Turns.{turns}
 
 abbrev pub one : Float
@@ -52,10 +52,15 @@ unfoldable pub distance : Bool → Float → Point → Segment → Float
 unfolding hypotOf residual copy
 distance periodic period p s = hypotOf (residual p (copy periodic period p s) .u) (residual p (copy periodic period p s) .v)
 
--- ---- "Clearance: least distance to a segment": the least of `so far` and the distances to one ring
+-- ---- "Clearance: least distance to a segment": the least of `so far` and the distances to the segments of one ring
+
+unfoldable pub leastOf : {A : Type 0} → (Between A → Float) → Float → List A → Float
+unfolding smallerOf segments
+leastOf {A} distance soFar ring = foldl (λ (d : Float) (s : Between A). smallerOf d (distance s)) soFar (segments ring)
+
 unfoldable pub nearer : Bool → Float → Point → Float → List Point → Float
-unfolding smallerOf distance segments
-nearer periodic period p soFar ring = foldl (λ (d : Float) (s : Segment). smallerOf d (distance periodic period p s)) soFar (segments ring)
+unfolding leastOf distance
+nearer periodic period p soFar ring = leastOf (distance periodic period p) soFar ring
 
 -- ---- the same by keys, whose order is the distances'
 
@@ -64,5 +69,5 @@ unfolding keyOf residual copy
 segmentKey periodic period p s = keyOf (residual p (copy periodic period p s) .u) (residual p (copy periodic period p s) .v)
 
 unfoldable pub nearerKey : Bool → Float → Point → Float → List Point → Float
-unfolding smallerOf segmentKey segments
-nearerKey periodic period p soFar ring = foldl (λ (k : Float) (s : Segment). smallerOf k (segmentKey periodic period p s)) soFar (segments ring)
+unfolding leastOf segmentKey
+nearerKey periodic period p soFar ring = leastOf (segmentKey periodic period p) soFar ring

@@ -1,20 +1,29 @@
 -- Document 01, "Chart", rule 6: "Segments join each ring point to the next, the last to the first".
+-- The points of a ring are in the chart, or their images in space.
 use mathlib.Core.List.{List, [], _∷_}
 use Rattle.sheet.specs.Content.{Point}
 
-pub record Segment : Type 0 where
-  pub a : Point
-  pub b : Point
+pub record Between (A : Type 0) : Type 0 where
+  pub a : A
+  pub b : A
 
-abbrev pub segment : Point → Point → Segment
-segment a b = record { a = a; b = b }
+abbrev pub between : {A : Type 0} → A → A → Between A
+between a b = record { a = a; b = b }
 
 -- from a through the points after it, and back to the ring's first
-unfoldable pub segmentsFrom : Point → Point → List Point → List Segment
-segmentsFrom first a [] = segment a first ∷ []
-segmentsFrom first a (b ∷ ps) = segment a b ∷ segmentsFrom first b ps
+unfoldable pub segmentsFrom : {A : Type 0} → A → A → List A → List (Between A)
+segmentsFrom first a [] = between a first ∷ []
+segmentsFrom first a (b ∷ ps) = between a b ∷ segmentsFrom first b ps
 
-unfoldable pub segments : List Point → List Segment
+unfoldable pub segments : {A : Type 0} → List A → List (Between A)
 unfolding segmentsFrom
 segments [] = []
 segments (p ∷ ps) = segmentsFrom p p ps
+
+-- ---- in the chart
+
+abbrev pub Segment : Type 0
+Segment = Between Point
+
+abbrev pub segment : Point → Point → Segment
+segment a b = between a b
