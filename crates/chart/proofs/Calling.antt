@@ -19,11 +19,11 @@ use Rattle.rings.specs.Unroll.{movedRing}
 use Rattle.rings.proofs.Flat.{pairs-flat, length-flat}
 use Rattle.rings.proofs.Moved.{length-moved}
 use Rattle.rings.proofs.Opening.{opening}
-use Rattle.chart.specs.Answer.{Numbers, refused, paper}
+use Rattle.chart.specs.Answer.{Numbers, refused, paper, settled}
 use Rattle.chart.specs.Chart.{candidate, answered, noneClear, charted, chartOf, chartChecks, frameChecks, movedRings, frame, joinsOpen, chosen, pointCount, phaseWrong, roomWrong, written, writtenPoint}
 use Rattle.chart.specs.Frame.{frameOf, bandWide, narrow}
 use Rattle.chart.specs.Parts.{ringsFrom, endsFrom}
-use Rattle.chart.specs.Stages.{isPoint, movedBlock, movedBlocks, anyOpen, normalisedBy, stageChecks, settled, foundIn, Passed}
+use Rattle.chart.specs.Stages.{isPoint, movedBlock, movedBlocks, anyOpen, normalisedBy, stageChecks, foundIn, Passed}
 use Rattle.chart.specs.declared.answer.Answer.{Answer}
 use Rattle.chart.specs.declared.answer.Answer.the-variants.{Refused}
 use Rattle.chart.specs.declared.candidate.Candidate.{Candidate}

@@ -1,5 +1,7 @@
 -- Document 01, "the outcome is either a point with its three coordinates, clearance and count, or a refusal number", and the paper's six numbers of either: the status and the five that stand beside it.
+use mathlib.Core.Bool.{cond}
 use Prim.Native.Nat.{ℕ}
+use lib.Dec.{eqb}
 use lib.Ieee.{Float}
 use Rattle.leaves.specs.Constants.{zero}
 use Rattle.chart.specs.declared.answer.Answer.{Answer}
@@ -21,3 +23,7 @@ refused n = record { status = n; x = zero; y = zero; z = zero; clearance = zero;
 unfoldable pub paper : Answer → Numbers
 paper (Point x y z clearance count) = record { status = 0; x = x; y = y; z = z; clearance = clearance; count = count }
 paper (Refused n) = refused n
+
+-- the answer's numbers where no check fails, else those of the first that does
+unfoldable pub settled : ℕ → Numbers → Numbers
+settled refusal numbers = cond (eqb refusal 0) numbers (refused refusal)

@@ -1,9 +1,8 @@
 -- What the private functions of the chart promise each other, on rings that stand in one list of numbers (Parts). A reader of the chart's definition needs nothing of it.
-use mathlib.Core.Bool.{Bool, true, false, cond}
+use mathlib.Core.Bool.{Bool, true, false}
 use mathlib.Core.List.{List, [], _∷_, _++_, map}
 use mathlib.Core.Path.{_≡_}
 use Prim.Native.Nat.{ℕ}
-use lib.Dec.{eqb}
 use lib.Ieee.{Float}
 use lib.ListN.{length}
 use Rattle.sheet.specs.Checks.{Check, check, first, layoutChecks, contentChecks}
@@ -13,7 +12,7 @@ use Rattle.sheet.specs.Lists.{anyOf}
 use Rattle.rings.specs.Joins.{ringOpen, every}
 use Rattle.rings.specs.Normalise.{normal}
 use Rattle.rings.specs.Unroll.{movedRing}
-use Rattle.chart.specs.Answer.{Numbers, refused}
+use Rattle.chart.specs.Answer.{Numbers, settled}
 use Rattle.chart.specs.Chart.{candidate, answered, noneClear, phaseWrong, roomWrong}
 use Rattle.chart.specs.Frame.{bandWide, narrow}
 use Rattle.chart.specs.declared.answer.Answer.{Answer}
@@ -52,10 +51,6 @@ stageChecks sense f rings =
     ∷ check 13 (anyOpen 16 f rings)
     ∷ check 14 (noneClear (candidate f sense (normalisedBy f rings)))
     ∷ []
-
--- the numbers of a refusal, or those of the answer
-unfoldable pub settled : ℕ → Numbers → Numbers
-settled refusal numbers = cond (eqb refusal 0) numbers (refused refusal)
 
 -- checks 11 to 14, and the answer, of moved rings
 unfoldable pub foundIn : ℕ → ℕ → Frame → List (List Point) → Numbers

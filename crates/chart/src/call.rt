@@ -26,7 +26,7 @@ ghost use Rattle.chart.specs.Parts.{ringsFrom, Packed};
 ghost use Rattle.chart.specs.Stages.{isPoint, normalisedBy, stageChecks, foundIn, Passed};
 
 // 8: a phase that is neither 0 nor 1, or 1 off a torus.
-fn phase_wrong(s: &[u8], phase: u32) -> bool
+pub fn phase_wrong(s: &[u8], phase: u32) -> bool
     ensures { λ r. ⌜ r ≡ phaseWrong (sheetOf (now (s .entry))) phase ⌝ }
 {
     if 1 < phase {
@@ -39,7 +39,7 @@ fn phase_wrong(s: &[u8], phase: u32) -> bool
 }
 
 // How many f64 the points of all rings are.
-fn point_numbers(s: &[u8]) -> usize
+pub fn point_numbers(s: &[u8]) -> usize
     ensures { λ r. ⌜ r ≡ 2 * pointCount (sheetOf (now (s .entry))) ⌝ }
 {
     let mut at = sheet::head_size(sheet::byte_at(s, 5));

@@ -12,3 +12,5 @@ mod write;
 
 pub use answer::Answer;
 pub use call::chart;
+pub use call::phase_wrong;
+pub use call::point_numbers;

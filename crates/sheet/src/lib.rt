@@ -19,3 +19,4 @@ pub use fields::block_size;
 pub use fields::byte_at;
 pub use fields::head_size;
 pub use fields::number;
+pub use walk::is_beyond;

@@ -21,7 +21,7 @@ ghost use Rattle.sheet.specs.Checks.{fill, beyond, coedgeWrong, ringWron
 pub(crate) const COORDINATE_LIMIT: f64 = 1048576.0;
 
 // Of magnitude above the limit, infinite, or a NaN.
-fn is_beyond(limit: f64, x: f64) -> bool
+pub fn is_beyond(limit: f64, x: f64) -> bool
     ensures { λ r. ⌜ r ≡ beyond limit x ⌝ }
 {
     if -limit <= x { !(x <= limit) } else { true }
