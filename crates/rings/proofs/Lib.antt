@@ -14,7 +14,8 @@ pub mod Axes
 pub mod Ends
 pub mod Seams
 pub mod Opening
--- folds over a ring's segments: how large a winding can be, the least distance by keys
+-- folds over a ring's segments: how large a winding can be, the least distance, and the same by keys
 pub mod RingFolds
 pub mod Windings
+pub mod LeastDistance
 pub mod Nearest

@@ -1,5 +1,5 @@
--- A ring that stands in a list of numbers, one point after the other: its last point, and a fold over its segments.
-use mathlib.Core.Path.{_≡_, refl}
+-- A fold over a ring's segments, one at a time, whatever its points are. A ring that stands in a list of numbers, one point of the chart after the other: its last point, and such a fold.
+use mathlib.Core.Path.{_≡_, refl, sym, ap}
 use mathlib.Core.List.{List, [], _∷_, foldl}
 use Prim.Native.Nat.{ℕ, suc, _+_, _-_, _*_, _/_, _<_, _≤_}
 use native.Mathlib.Omega.{arith}
@@ -7,8 +7,34 @@ use lib.Ieee.{Float, nan}
 use lib.ListN.{length, getD, drop}
 use Rattle.sheet.specs.Content.{Point, point, pairs}
 use Rattle.rings.specs.Bounds.{lastOf}
-use Rattle.rings.specs.Segments.{Segment, segment, segmentsFrom, segments}
+use Rattle.rings.specs.Segments.{Between, between, Segment, segment, segmentsFrom, segments}
 use Rattle.rings.proofs.Pairs.{pairs-step, pairs-end}
+
+-- ---- a fold over the segments
+
+module _ {A S : Type 0} (step : S → Between A → S) where
+  pub rest-none : {ring : List A} (s : S) → ring ≡ [] → foldl step s (segments ring) ≡ s
+  unfolding segments
+  rest-none s e = ap (λ (ps : List A). foldl step s (segments ps)) e
+
+  module _ (first : A) where
+    -- over those left when the points after a are `rest`, the closing one among them
+    abbrev pub foldRest : S → A → List A → S
+    foldRest s a rest = foldl step s (segmentsFrom first a rest)
+
+    pub rest-start : {ring rest : List A} (s : S) → ring ≡ first ∷ rest → foldRest s first rest ≡ foldl step s (segments ring)
+    unfolding segments
+    rest-start s e = sym (ap (λ (ps : List A). foldl step s (segments ps)) e)
+
+    pub rest-step : {rest rest′ : List A} {b : A} (s : S) (a : A) → rest ≡ b ∷ rest′ → foldRest s a rest ≡ foldRest (step s (between a b)) b rest′
+    unfolding segmentsFrom
+    rest-step s a e = ap (foldRest s a) e
+
+    pub rest-end : {rest : List A} (s : S) (a : A) → rest ≡ [] → foldRest s a rest ≡ step s (between a first)
+    unfolding segmentsFrom
+    rest-end s a e = ap (foldRest s a) e
+
+-- ---- in a list of numbers
 
 abbrev pub pointAt : List Float → ℕ → Point
 pointAt ring k = point (getD ring (2 * k) nan) (getD ring (2 * k + 1) nan)
@@ -33,26 +59,22 @@ last-point [] h = absurd (none 0 h (omega arith))
 last-point (u ∷ []) h = absurd (none 1 h (omega arith))
 last-point (u ∷ v ∷ rest) h = let e : suc (suc (length rest)) / 2 - 1 ≡ length rest / 2 = omega arith in rw e (last-after u v rest)
 
--- ---- a fold over the segments
+-- ---- the fold
 
 module _ {S : Type 0} (step : S → Segment → S) (ring : List Float) where
-  -- over those left when a is the point before place k, the closing one among them
+  -- over those left when a is the point before place k
   abbrev pub foldFrom : S → Point → ℕ → S
-  foldFrom s a k = foldl step s (segmentsFrom (pointAt ring 0) a (pairs (drop (2 * k) ring)))
+  foldFrom s a k = foldRest step (pointAt ring 0) s a (pairs (drop (2 * k) ring))
 
   module _ (s : S) where
     pub fold-none : length ring / 2 ≡ 0 → foldl step s (segments (pairs ring)) ≡ s
-    unfolding segments
-    fold-none h = let l : length ring / 2 ≤ 0 = omega arith in rw (pairs-end ring 0)
+    fold-none h = rest-none step s (pairs-end ring 0 (omega arith))
 
     pub fold-start : 1 < length ring → foldFrom s (pointAt ring 0) 1 ≡ foldl step s (segments (pairs ring))
-    unfolding segments
-    fold-start h = rw (pairs-step ring 0 nan)
+    fold-start h = rest-start step (pointAt ring 0) s (pairs-step ring 0 nan h)
 
     pub fold-step : (a : Point) (k : ℕ) → 2 * k + 1 < length ring → foldFrom s a k ≡ foldFrom (step s (segment a (pointAt ring k))) (pointAt ring k) (k + 1)
-    unfolding segmentsFrom
-    fold-step a k h = rw (pairs-step ring k nan)
+    fold-step a k h = rest-step step (pointAt ring 0) s a (pairs-step ring k nan h)
 
     pub fold-end : (a : Point) (k : ℕ) → length ring / 2 ≤ k → foldFrom s a k ≡ step s (segment a (pointAt ring 0))
-    unfolding segmentsFrom
-    fold-end a k h = rw (pairs-end ring k)
+    fold-end a k h = rest-end step (pointAt ring 0) s a (pairs-end ring k h)

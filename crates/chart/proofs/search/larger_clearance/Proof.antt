@@ -13,7 +13,7 @@ use Rattle.leaves.specs.Hypot.{hypotOfKey}
 use Rattle.leaves.proofs.Hypotenuses.{inf-key, hypot-of-inf}
 use Rattle.sheet.specs.Content.{Point, point}
 use Rattle.rings.specs.Clearance.{nearer, nearerKey}
-use Rattle.rings.proofs.Nearest.{nearest-by-key}
+use Rattle.rings.proofs.Nearest.{nearer-by-key}
 use Rattle.chart.specs.Chart.{clearance}
 use Rattle.chart.specs.Parts.{ringsFrom, Ascends}
 use Rattle.chart.specs.declared.frame.Frame.{Frame}
@@ -26,7 +26,7 @@ use Rattle.chart.proofs.search.larger_clearance.Tie as tie
 clearance-by-key : (f : Frame) (rings : List (List Point)) (p : Point) → clearance f rings p ≡ hypotOfKey (foldl (nearerKey (f .periodic) (f .period) p) (inf false) rings)
 unfolding clearance
 clearance-by-key f rings p =
-    ap (λ (d : Float). foldl (nearer (f .periodic) (f .period) p) d rings) (sym hypot-of-inf) ∙ nearest-by-key (f .periodic) (f .period) p (inf false) rings inf-key
+    ap (λ (d : Float). foldl (nearer (f .periodic) (f .period) p) d rings) (sym hypot-of-inf) ∙ nearer-by-key (f .periodic) (f .period) p (inf false) rings inf-key
 
 -- 1/0
 infinity : div binary64 (ofBits binary64 0x3FF0000000000000) (ofBits binary64 0) ≡ inf false
