@@ -4,14 +4,14 @@ use mathlib.Core.Path.{_≡_, refl, sym, ap, _∙_, subst}
 use mathlib.Core.Logic.{_⊎_, inl, inr, _↔_}
 use mathlib.Core.Bool.{Bool, true, false, not, cond}
 use mathlib.Core.List.{List, [], _∷_, _++_, foldl, map, flatMap}
-use Prim.Native.Nat.{ℕ, zero, suc, _+_, _^_, _≤_, _<_}
+use Prim.Native.Nat.{ℕ, zero, suc, _+_, _≤_, _<_}
 use native.Mathlib.Nat.{eq-or-lt-of-le}
 use native.Mathlib.Decide.{decLt}
 use native.Mathlib.Omega.{arith}
 use lib.Dec.{T, not-T, T-not}
-use lib.Ieee.Fits.{round-fits}
 use lib.Ieee.{Float, binary64, ofBits, fits, isNan, lt, le}
-use Rattle.leaves.specs.Constants.{zero as plusZero, clearanceLimit, decimal}
+use Rattle.leaves.specs.Constants.{zero as plusZero, clearanceLimit}
+use Rattle.leaves.proofs.ConstantBits.{clearanceLimit-fits, clearanceLimit-positive}
 use Rattle.leaves.proofs.Order.{le-self, le→not-lt, le-lt-trans, lt-le-trans, lt→le, lt-irrefl, not-lt→le}
 use Rattle.chart.specs.Grid.{upFrom, lines, part, gridOf}
 use Rattle.chart.specs.Search.{start, better, counted, visit, column, search}
@@ -79,15 +79,6 @@ false-T e = subst (λ (x : Bool). T (not x)) (sym e) tt
 zero-held : T (fits binary64 plusZero)
 unfolding fits ofBits
 zero-held = tt
-
--- 0 is not above the limit
-limit-above : lt clearanceLimit plusZero ≡ false
-unfolding lt clearanceLimit ofBits
-limit-above = refl
-
-limit-held : T (fits binary64 clearanceLimit)
-unfolding clearanceLimit decimal
-limit-held = round-fits binary64 false 1 (10 ^ 2)
 
 -- ---- the count
 
@@ -212,7 +203,7 @@ module _ (cover : ℕ → ℕ → Bool) (clear : ℕ → ℕ → Float) where
     found-is c r t = by (r .from)
       where
         by : (c .clearance ≡ plusZero) ⊎ ((a : ℕ) × (b : ℕ) × Found c a b) → (i : ℕ) × (j : ℕ) × Clearest cover clear i j × Found c i j
-        by (inl e) = absurd (T-not (lt clearanceLimit (c .clearance)) (false-T (ap (lt clearanceLimit) e ∙ limit-above)) t)
+        by (inl e) = absurd (T-not (lt clearanceLimit (c .clearance)) (false-T (ap (lt clearanceLimit) e ∙ clearanceLimit-positive)) t)
         by (inr (i, j, w)) =
             let e = w .is-clear in (
               i,
@@ -239,7 +230,7 @@ module _ (cover : ℕ → ℕ → Bool) (clear : ℕ → ℕ → Float) where
         back : lt clearanceLimit (search cover clear .clearance) ≡ false → NoneServes cover clear
         back e i j s =
             T-not (lt clearanceLimit (search cover clear .clearance)) (false-T e)
-            (lt-le-trans binary64 clearanceLimit (clear i j) (search cover clear .clearance) limit-held (held i j) (search-reaches .held) (s .above) (search-reaches .most i j (s .on) (s .covered) (all-before i j (s .on))))
+            (lt-le-trans binary64 clearanceLimit (clear i j) (search cover clear .clearance) clearanceLimit-fits (held i j) (search-reaches .held) (s .above) (search-reaches .most i j (s .on) (s .covered) (all-before i j (s .on))))
 
     -- otherwise the search gives the clearest grid point, with its clearance and the number of covered ones
     pub chosen-is : lt clearanceLimit (search cover clear .clearance) ≡ true

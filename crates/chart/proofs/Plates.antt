@@ -9,9 +9,12 @@ use lib.IntN.{pos, negsuc}
 use lib.ListN.{length}
 use lib.Ieee.{Float, binary64, ofBits}
 use borrow.Author.Tests.{le-ltb}
-use Rattle.leaves.specs.Constants.{zero, decimal}
+use Rattle.leaves.specs.Bounds.{smallerOf, largerOf}
+use Rattle.leaves.specs.Constants.{zero, decimal, deviationLimit, scaleLimit, joinLimit}
+use Rattle.leaves.specs.Hypot.{hypotOf}
 use Rattle.leaves.specs.Root.{rootOf}
 use Rattle.leaves.specs.Round.{roundOf}
+use Rattle.leaves.specs.Turn.{turnOf}
 use Rattle.leaves.proofs.Examples.{round-two-and-a-half, round-minus-two-and-a-half, root-two, root-least}
 use Rattle.sheet.specs.Content.{Point, point}
 use Rattle.sheet.specs.Layout.{sheetOf, big}
@@ -32,11 +35,11 @@ plate-A-read = refl
 
 -- the rows down to 13, with room for just the points
 thirteen : first (downTo 13 (chartChecks (sheetBytes (plateA (raised 13))) 0 136)) ≡ 13
-unfolding first downTo chartChecks big sheetBytes plateA ofBits
+unfolding first downTo chartChecks big sheetBytes plateA ofBits smallerOf largerOf hypotOf deviationLimit scaleLimit joinLimit
 thirteen = refl
 
 passes : first (downTo 13 (chartChecks (sheetBytes (plateA (raised 14))) 0 136)) ≡ 0
-unfolding first downTo chartChecks big sheetBytes plateA ofBits
+unfolding first downTo chartChecks big sheetBytes plateA ofBits smallerOf largerOf hypotOf deviationLimit scaleLimit joinLimit
 passes = refl
 
 -- the table turns on the room by row 9 alone
@@ -82,7 +85,7 @@ pub record Plates : Type 0 where
   pub plate-A-passes : (out : List Float) → 136 ≤ length out → Passes 13 (chartChecks (sheetBytes (plateA (raised 14))) 0 (length out))
 
 pub plates : Plates
-unfolding insideOf windingOf joinsOpen square halfway decimal ofBits sheetOf sheetBytes plateA
+unfolding insideOf windingOf joinsOpen square halfway decimal ofBits sheetOf sheetBytes plateA smallerOf largerOf hypotOf roundOf turnOf joinLimit
 plates = record {
   round-up = round-two-and-a-half;
   round-down = round-minus-two-and-a-half;

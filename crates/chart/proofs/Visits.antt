@@ -8,6 +8,7 @@ use native.Mathlib.Omega.{arith}
 use lib.Dec.{T}
 use lib.Ieee.{Float, lt}
 use Rattle.leaves.specs.Bounds.{largerOf}
+use Rattle.leaves.proofs.Choices.{larger-by-test}
 use Rattle.leaves.proofs.Order.{lt-irrefl}
 use Rattle.sheet.specs.Content.{Point}
 use Rattle.chart.specs.Chart.{covered, clearance, candidate}
@@ -28,9 +29,9 @@ not-less x = not-so (lt x x) (lt-irrefl x)
 
 module _ (i j : ℕ) (x : Float) (best : Candidate) where
   by-test : (t : Bool) → lt (best .clearance) x ≡ t → better i j (largerOf (best .clearance) x) best ≡ better i j x best
-  unfolding better largerOf
-  by-test true e = rw (e, e)
-  by-test false e = rw (e, not-less (best .clearance))
+  unfolding better
+  by-test true e = rw (larger-by-test (best .clearance) x, e, e)
+  by-test false e = rw (larger-by-test (best .clearance) x, e, not-less (best .clearance))
 
   pub better-larger : better i j (largerOf (best .clearance) x) best ≡ better i j x best
   better-larger = by-test (lt (best .clearance) x) refl

@@ -131,7 +131,7 @@ roomWrong s room = ltb room (2 * pointCount s)
 
 -- 14: "no covered grid point with clearance above 0.01"
 unfoldable pub noneClear : Candidate → Bool
-unfolding lt clearanceLimit
+unfolding lt
 noneClear c = not (lt clearanceLimit (c .clearance))
 
 unfoldable pub frameChecks : Sheet → ℕ → List Check

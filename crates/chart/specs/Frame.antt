@@ -24,7 +24,6 @@ unfolding sub least greatest axisOf
 spread axis ps = sub binary64 (greatest (map (axisOf axis) ps)) (least (map (axisOf axis) ps))
 
 unfoldable pub capped : Bool → Float → Float
-unfolding smallerOf
 capped periodic scale = cond periodic (smallerOf scale tau) scale
 
 -- of a box with these least u and v and these scales, before the cap
@@ -56,5 +55,5 @@ bandWide f = f .band && le pi (f .«scale_v»)
 
 -- ---- 12: "u or v scale ≤ 1e-12"
 unfoldable pub narrow : Frame → Bool
-unfolding le scaleLimit
+unfolding le
 narrow f = le (f .«scale_u») scaleLimit || le (f .«scale_v») scaleLimit

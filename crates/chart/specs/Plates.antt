@@ -15,7 +15,6 @@ square = point plusZero plusZero ∷ point one plusZero ∷ point one one ∷ po
 
 -- ---- "ring at v = 0.5, u = 0, 0.25, 0.5, 0.75"
 unfoldable pub halfway : List Point
-unfolding decimal
 halfway = point plusZero (decimal 5 1) ∷ point (decimal 25 2) (decimal 5 1) ∷ point (decimal 5 1) (decimal 5 1) ∷ point (decimal 75 2) (decimal 5 1) ∷ []
 
 -- ---- "Plate A: plane, origin 0, u axis (1,0,0), normal (0,0,1), that square as four coedges evenly sampled, deviations 0"

@@ -96,6 +96,10 @@ smaller-swap f s a b h p q =
 
 -- ---- larger-of
 
+pub larger-by-test : (a b : Float) → largerOf a b ≡ cond (lt a b) b a
+unfolding largerOf
+larger-by-test a b = refl
+
 pub larger-either : (a b : Float) → (largerOf a b ≡ a) ⊎ (largerOf a b ≡ b)
 unfolding largerOf
 larger-either a b = one-of (lt a b) b a

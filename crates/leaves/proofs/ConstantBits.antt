@@ -1,7 +1,11 @@
 -- Each decimal constant has the bits of the nearest f64, which are those that the code's literal shows. By computation.
 use mathlib.Core.Path.{_≡_, refl}
-use lib.Ieee.{binary64, ofBits}
-use Rattle.leaves.specs.Constants.{deviationLimit, scaleLimit, joinLimit, clearanceLimit, physicalLimit, micro, endLimit, parallel, degenerateLimit}
+use mathlib.Core.Bool.{false}
+use Prim.Native.Nat.{_^_}
+use lib.Dec.{T}
+use lib.Ieee.{binary64, ofBits, fits, lt}
+use lib.Ieee.Fits.{round-fits}
+use Rattle.leaves.specs.Constants.{zero, decimal, deviationLimit, scaleLimit, joinLimit, clearanceLimit, physicalLimit, micro, endLimit, parallel, degenerateLimit}
 
 pub deviationLimit-bits : deviationLimit ≡ ofBits binary64 0x3F60624DD2F1A9FC
 unfolding deviationLimit ofBits
@@ -38,3 +42,13 @@ parallel-bits = refl
 pub degenerateLimit-bits : degenerateLimit ≡ ofBits binary64 0x3C32725DD1D243AC
 unfolding degenerateLimit ofBits
 degenerateLimit-bits = refl
+
+-- ---- the limit of refusal 14: a value of the format, and 0 is not above it
+
+pub clearanceLimit-fits : T (fits binary64 clearanceLimit)
+unfolding clearanceLimit decimal
+clearanceLimit-fits = round-fits binary64 false 1 (10 ^ 2)
+
+pub clearanceLimit-positive : lt clearanceLimit zero ≡ false
+unfolding lt clearanceLimit ofBits
+clearanceLimit-positive = refl

@@ -42,6 +42,16 @@ smaller-key k l p q = smaller-keeps Key k l p q
 pub key-clear : (k : Float) → Key k → Clear binary64 k
 key-clear k p = record { held = p .held; unmarked = clear-of-sign k (p .unsigned) }
 
+-- ---- a hypotenuse is that of a key
+
+pub hypot-by-key : (a b : Float) → hypotOf a b ≡ hypotOfKey (keyOf a b)
+unfolding hypotOf
+hypot-by-key a b = refl
+
+pub hypot3-by-key : (a b c : Float) → hypot3Of a b c ≡ hypotOfKey (keyOf (hypotOf a b) c)
+unfolding hypot3Of hypotOf
+hypot3-by-key a b c = refl
+
 -- ---- order
 
 pub hypot-mono : (k l : Float) → Key k → Key l → T (le k l) → T (le (hypotOfKey k) (hypotOfKey l))

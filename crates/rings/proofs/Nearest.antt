@@ -1,14 +1,14 @@
 -- The least distance by keys. Where a segment's distance is the hypotenuse of its key, the least distance to a ring, or to a list of rings, is the hypotenuse of the least key,
 -- since keys order as hypotenuses do. Such a distance is never -0. In the chart the key is the residual's.
-use mathlib.Core.Path.{_≡_, refl, sym, ap, _∙_}
+use mathlib.Core.Path.{_≡_, refl, sym, ap, _∙_, fun-ext}
 use mathlib.Core.Bool.{Bool}
 use mathlib.Core.List.{List, [], _∷_, foldl, map, foldl-map}
 use lib.Ieee.{Float, binary64}
 use Rattle.leaves.specs.Bounds.{smallerOf}
-use Rattle.leaves.specs.Hypot.{hypotOf, hypotOfKey}
+use Rattle.leaves.specs.Hypot.{hypotOfKey}
 use Rattle.leaves.proofs.Choices.{Clear}
 use Rattle.leaves.proofs.Folds.{All, all-of, fold-keeps}
-use Rattle.leaves.proofs.Hypotenuses.{Key, key-is, smaller-key, least-hypot, hypot-of-key-is}
+use Rattle.leaves.proofs.Hypotenuses.{Key, key-is, smaller-key, least-hypot, hypot-of-key-is, hypot-by-key, hypot-clear}
 use Rattle.leaves.proofs.Signs.{clear-of-sign}
 use Rattle.sheet.specs.Content.{Point}
 use Rattle.sheet.proofs.Permutations.{all-map}
@@ -57,9 +57,13 @@ module _ (periodic : Bool) (period : Float) (p : Point) where
   unfolding segmentKey
   segment-key s = key-is (residual p (copy periodic period p s) .u) (residual p (copy periodic period p s) .v)
 
+  distance-by-key : distance periodic period p ≡ (λ (s : Segment). hypotOfKey (segmentKey periodic period p s))
+  unfolding distance segmentKey
+  distance-by-key = fun-ext (λ s. hypot-by-key (residual p (copy periodic period p s) .u) (residual p (copy periodic period p s) .v))
+
   pub distance-clear : (s : Segment) → Clear binary64 (distance periodic period p s)
-  unfolding distance segmentKey hypotOf
-  distance-clear = clear-by-key (segmentKey periodic period p) segment-key
+  unfolding distance
+  distance-clear s = hypot-clear (residual p (copy periodic period p s) .u) (residual p (copy periodic period p s) .v)
 
   -- the least key with one segment more
   abbrev pub keyStep : Float → Segment → Float
@@ -67,5 +71,6 @@ module _ (periodic : Bool) (period : Float) (p : Point) where
 
   pub nearer-by-key : (k : Float) (rings : List (List Point)) → Key k
       → foldl (nearer periodic period p) (hypotOfKey k) rings ≡ hypotOfKey (foldl (nearerKey periodic period p) k rings)
-  unfolding nearer nearerKey distance segmentKey hypotOf
-  nearer-by-key = nearest-by-key (segmentKey periodic period p) segment-key
+  unfolding nearer nearerKey
+  nearer-by-key k rings h =
+      ap (λ (d : Segment → Float). foldl (leastOf d) (hypotOfKey k) rings) distance-by-key ∙ nearest-by-key (segmentKey periodic period p) segment-key k rings h

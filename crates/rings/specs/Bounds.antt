@@ -9,11 +9,9 @@ use Rattle.leaves.specs.Constants.{pi}
 use Rattle.sheet.specs.Content.{Point}
 
 unfoldable pub least : List Float → Float
-unfolding smallerOf
 least xs = foldl smallerOf (inf false) xs
 
 unfoldable pub greatest : List Float → Float
-unfolding largerOf
 greatest xs = foldl largerOf (inf true) xs
 
 -- a point's u at axis 0, its v at any other

@@ -37,7 +37,7 @@ dotOf x y = add binary64 (mul binary64 (x .u) (y .u)) (mul binary64 (x .v) (y .v
 
 -- where along the segment the nearest point lies; the Rust asks d·d > 0
 unfoldable pub along : Point → Segment → Float
-unfolding lt dotOf delta sub div clampOf
+unfolding lt dotOf delta sub div
 along p s =
     cond (lt zero (dotOf (delta s) (delta s)))
     (clampOf (div binary64 (dotOf (point (sub binary64 (p .u) (s .a .u)) (sub binary64 (p .v) (s .a .v))) (delta s)) (dotOf (delta s) (delta s))) zero one)
@@ -49,13 +49,13 @@ residual p s =
     point (sub binary64 (sub binary64 (p .u) (s .a .u)) (mul binary64 (along p s) (delta s .u))) (sub binary64 (sub binary64 (p .v) (s .a .v)) (mul binary64 (along p s) (delta s .v)))
 
 unfoldable pub distance : Bool → Float → Point → Segment → Float
-unfolding hypotOf residual copy
+unfolding residual copy
 distance periodic period p s = hypotOf (residual p (copy periodic period p s) .u) (residual p (copy periodic period p s) .v)
 
 -- ---- "Clearance: least distance to a segment": the least of `so far` and the distances to the segments of one ring
 
 unfoldable pub leastOf : {A : Type 0} → (Between A → Float) → Float → List A → Float
-unfolding smallerOf segments
+unfolding segments
 leastOf {A} distance soFar ring = foldl (λ (d : Float) (s : Between A). smallerOf d (distance s)) soFar (segments ring)
 
 unfoldable pub nearer : Bool → Float → Point → Float → List Point → Float
@@ -65,7 +65,7 @@ nearer periodic period p soFar ring = leastOf (distance periodic period p) soFar
 -- ---- the same by keys, whose order is the distances'
 
 unfoldable pub segmentKey : Bool → Float → Point → Segment → Float
-unfolding keyOf residual copy
+unfolding residual copy
 segmentKey periodic period p s = keyOf (residual p (copy periodic period p s) .u) (residual p (copy periodic period p s) .v)
 
 unfoldable pub nearerKey : Bool → Float → Point → Float → List Point → Float

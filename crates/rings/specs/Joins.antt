@@ -51,12 +51,12 @@ unfolding sub turns
 gapU periodic d = cond periodic (sub binary64 d (turns d tau)) d
 
 unfoldable pub gap : Bool → Float → Float → Join → Float
-unfolding gapU div sub hypotOf
+unfolding gapU div sub
 gap periodic scaleU scaleV j = hypotOf (div binary64 (gapU periodic (sub binary64 (j .from .u) (j .to .u))) scaleU) (div binary64 (sub binary64 (j .from .v) (j .to .v)) scaleV)
 
 -- ---- 13: "a join above 1e-4"
 unfoldable pub wide : Bool → Float → Float → Join → Bool
-unfolding lt joinLimit gap
+unfolding lt gap
 wide periodic scaleU scaleV j = lt joinLimit (gap periodic scaleU scaleV j)
 
 unfoldable pub ringOpen : Bool → Float → Float → List Bool → List Point → Bool

@@ -3,5 +3,5 @@ use lib.Ieee.{Float, binary64, mul, div}
 use Rattle.leaves.specs.Round.{roundOf}
 
 unfoldable pub turns : Float → Float → Float
-unfolding mul div roundOf
+unfolding mul div
 turns x period = mul binary64 (roundOf (div binary64 x period)) period

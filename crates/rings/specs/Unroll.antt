@@ -11,7 +11,6 @@ use Rattle.rings.specs.Turns.{turns}
 
 -- ---- 1: "Phase 1 only: v becomes ((v + PI + PI) rem TAU) − PI, where rem is %, plus TAU if negative"
 unfoldable pub turned : ℕ → Point → Point
-unfolding turnOf
 turned phase p = point (p .u) (cond (eqb phase 1) (turnOf (p .v)) (p .v))
 
 -- ---- 2: "In file order, each point after a ring's first moves by round((previous − it)/TAU) × TAU: u for kinds 1–4, v also for 4"

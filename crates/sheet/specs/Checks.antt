@@ -92,7 +92,7 @@ unfolding beyond
 pointWrong p = beyond coordinateLimit (p .u) || beyond coordinateLimit (p .v)
 
 unfoldable pub coedgeWrong : Coedge → Bool
-unfolding le lt deviationLimit anyOf pointWrong
+unfolding le lt anyOf pointWrong
 coedgeWrong c = not (le plusZero (c .deviation) && lt (c .deviation) deviationLimit) || anyOf pointWrong (c .points)
 
 unfoldable pub ringWrong : List Coedge → Bool
