@@ -9,25 +9,40 @@ use lib.Ieee.{Float, binary64, ofInt}
 use Rattle.chart.specs.Answer.{Numbers}
 use Rattle.chart.specs.Chart.{Charted, chartOf}
 
--- what the host sees of a call: the status returned, the result list and the lent list afterwards
-pub record Seen : Type 0 where
+-- ---- the result of every call
+
+-- the status returned, and the result list afterwards
+pub record Returned : Type 0 where
   pub status : ℕ
   pub result : List Float
-  pub lent : List Float
 
-abbrev pub seen : ℕ → List Float → List Float → Seen
-seen status result lent = record { status = status; result = result; lent = lent }
+abbrev pub returned : ℕ → List Float → Returned
+returned status result = record { status = status; result = result }
 
 -- x, y, z, clearance and the count as a number
 unfoldable pub five : Numbers → List Float
 unfolding ofInt
 five n = n .x ∷ n .y ∷ n .z ∷ n .clearance ∷ ofInt binary64 (pos (n .count)) ∷ []
 
--- a call that gives `charted`, with these lists at entry
-unfoldable pub seenOf : Charted → List Float → List Float → Seen
+-- what a call that gives these numbers returns, with this result list at entry
+unfoldable pub returnedOf : Numbers → List Float → Returned
 unfolding five
-seenOf charted result lent = cond (eqb (length result) 5) (seen (charted .numbers .status) (five (charted .numbers)) (charted .points)) (seen 1 result lent)
+returnedOf n result = cond (eqb (length result) 5) (returned (n .status) (five n)) (returned 1 result)
+
+-- ---- the chart, which is lent a list to write
+
+-- its result, and the list afterwards
+pub record Seen : Type 0 where
+  pub returns : Returned
+  pub points : List Float
+
+abbrev pub seen : Returned → List Float → Seen
+seen returns points = record { returns = returns; points = points }
+
+unfoldable pub seenOf : Charted → List Float → List Float → Seen
+unfolding returnedOf
+seenOf charted points result = seen (returnedOf (charted .numbers) result) (cond (eqb (length result) 5) (charted .points) points)
 
 unfoldable pub chartSeen : List ℕ → ℕ → List Float → List Float → Seen
-unfolding seenOf chartOf
-chartSeen sheet phase points result = seenOf (chartOf sheet phase points) result points
+unfolding seenOf
+chartSeen sheet phase points result = seenOf (chartOf sheet phase points) points result

@@ -8,7 +8,7 @@ use crate::result::put;
 ghost use mathlib.Core.Path.{_≡_};
 ghost use Rattle.leaves.specs.Root.{rootOf};
 ghost use Rattle.leaves.specs.Round.{roundOf};
-ghost use Rattle.capi.specs.Convention.{seen, chartSeen};
+ghost use Rattle.capi.specs.Convention.{returned, seen, chartSeen};
 
 // The chart call: the status returned, the five numbers in `result`, the moved points in `points`.
 #[no_mangle]
@@ -18,7 +18,7 @@ pub extern "C" fn facepoint_chart(
     points: &mut [f64],
     result: &mut [f64],
 ) -> u32
-    ensures { λ r. ⌜ seen r (now (result .exit)) (now (points .exit)) ≡ chartSeen (now (sheet .entry)) phase (now (points .entry)) (now (result .entry)) ⌝ }
+    ensures { λ r. ⌜ seen (returned r (now (result .exit))) (now (points .exit)) ≡ chartSeen (now (sheet .entry)) phase (now (points .entry)) (now (result .entry)) ⌝ }
 {
     if result.len() != 5 {
         return 1;

@@ -19,7 +19,8 @@ pub mod Clearest
 -- rules 7 and 8 over the rings
 pub mod Crossings
 pub mod Clearances
--- the outcome, and the rows of the table
+-- the numbers of an answer; the outcome, and the rows of the table
+pub mod Answers
 pub mod Outcomes
 -- the rings of a sheet in another order
 pub mod AnyOrder

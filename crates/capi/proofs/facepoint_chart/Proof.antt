@@ -2,7 +2,7 @@
 use borrow.Author.Needs.{needs}
 use Rattle.chart.specs.Chart.{chartOf}
 use Rattle.capi.specs.Convention.{chartSeen}
-use Rattle.capi.proofs.Five.{other-length, of-five}
+use Rattle.capi.proofs.Five.{chart-other-length, chart-of-five}
 use Rattle.capi.proofs.facepoint_chart.Statement.{statement}
 use Rattle.capi.proofs.facepoint_chart.Tie as tie
 
@@ -10,7 +10,7 @@ returns : tie.Need-returns
 unfolding chartSeen
 returns c =
     let a = c .before .before .before .before .args in
-    other-length (chartOf (a .sheet .now) (a .phase) (a .points .now)) (a .result .now) (a .points .now) (c .if1 .taken)
+    chart-other-length (chartOf (a .sheet .now) (a .phase) (a .points .now)) (a .points .now) (a .result .now) (c .if1 .taken)
 
 chart-requires : tie.Need-chart-requires
 chart-requires c κs = search needs
@@ -29,7 +29,7 @@ unfolding chartSeen
 returns-2 c =
     let a = c .before .before .before .before .before .before .before .before .before .before .before .before .args in
     let call = c .before .before .before .before .before .before .chart in
-    of-five (chartOf (a .sheet .now) (a .phase) (a .points .now)) (a .result .now) (a .points .now) _ _ (call .result) _ (c .before .before .before .before .before .before .before .before .if1 .left) (call .ensures) (c .before .before .put .ensures)
+    chart-of-five (chartOf (a .sheet .now) (a .phase) (a .points .now)) (a .points .now) (a .result .now) _ _ _ (call .result) (c .before .before .before .before .before .before .before .before .if1 .left) (call .ensures) (c .before .before .put .ensures)
 
 pub facepoint-chart-spec : {M : Type 1} → statement M
 facepoint-chart-spec =
