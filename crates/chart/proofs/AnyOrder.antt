@@ -2,7 +2,7 @@
 -- chart writes goes with the order.
 use mathlib.Core.Path.{_≡_, refl, sym, ap, ap₂, _∙_, fun-ext}
 use mathlib.Core.Bool.{Bool, true, false, cond, _&&_, _||_}
-use mathlib.Core.List.{List, [], _∷_, map, flatten, List·Permᴰ}
+use mathlib.Core.List.{List, [], _∷_, _++_, map, flatten, List·Permᴰ}
 use Prim.Native.Nat.{ℕ, _*_}
 use lib.Dec.{eqb, ltb}
 use lib.ListN.{length}
@@ -106,6 +106,14 @@ module _ (s : Sheet) (rings : List (List Coedge)) (d : List·Permᴰ (s .rings) 
   unfolding numbersWrong
   same-numbers = ap (λ (b : Bool). planeWrong (s .plane) || b) (any-of-perm ringWrong d)
 
+  pub same-content : contentChecks s ≡ contentChecks (withRings s rings)
+  unfolding contentChecks
+  same-content = λ i. check 6 (same-coedges i) ∷ check 7 (same-numbers i) ∷ []
+
+  pub same-phase : (phase : ℕ) → phaseWrong s phase ≡ phaseWrong (withRings s rings) phase
+  unfolding phaseWrong
+  same-phase phase = refl
+
   pub same-count : pointCount s ≡ pointCount (withRings s rings)
   unfolding pointCount
   same-count = sum-perm (λ (r : List Coedge). length (ringPoints r)) d 0
@@ -139,13 +147,13 @@ module _ (s : Sheet) (rings : List (List Coedge)) (d : List·Permᴰ (s .rings) 
         ∙ candidate-perm (frame (withRings s rings) phase) (s .sense) (map-perm (normalIn (frame (withRings s rings) phase)) (moved-perm phase))
         ∙ sym (chosen-in (withRings s rings) phase)
 
-    same-frame-checks : frameChecks s phase ≡ frameChecks (withRings s rings) phase
+    pub same-frame-checks : frameChecks s phase ≡ frameChecks (withRings s rings) phase
     unfolding frameChecks
     same-frame-checks = λ i. check 11 (bandWide (same-frame i)) ∷ check 12 (narrow (same-frame i)) ∷ check 13 (same-joins i) ∷ check 14 (noneClear (same-chosen i)) ∷ []
 
     pub same-later : (room : ℕ) → laterChecks s phase room ≡ laterChecks (withRings s rings) phase room
-    unfolding laterChecks contentChecks phaseWrong roomWrong
-    same-later room = λ i. check 6 (same-coedges i) ∷ check 7 (same-numbers i) ∷ check 8 (phaseWrong s phase) ∷ check 9 (ltb room (2 * same-count i)) ∷ same-frame-checks i
+    unfolding laterChecks roomWrong
+    same-later room = λ i. same-content i ++ check 8 (same-phase phase i) ∷ check 9 (ltb room (2 * same-count i)) ∷ same-frame-checks i
 
     pub same-answer : answered (frame s phase) phase (chosen s phase) ≡ answered (frame (withRings s rings) phase) phase (chosen (withRings s rings) phase)
     same-answer = ap₂ (λ (f : Frame) (c : Candidate). answered f phase c) same-frame same-chosen

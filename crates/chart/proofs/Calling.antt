@@ -111,6 +111,12 @@ module _ (s : List ℕ) (phase : ℕ) (out : List Float) where
     unfolding later first roomWrong
     call-no-room e h = refused-by 9 (past-reading ∙ rw (e, lt-ltb _ _ h)) (λ z. omega (arith, z))
 
+-- ---- a sheet that reads
+
+pub points-most : (s : List ℕ) → first (layoutChecks s ++ contentChecks (sheetOf s)) ≡ 0 → 2 * pointCount (sheetOf s) ≤ 4352
+unfolding sheetOf blocks
+points-most s reads = omega (arith, count-of-blocks s, points-by-coedges (cut (ringCount s) (drop (headSize (kind s)) s)), checked s reads .coedgesMost)
+
 -- ---- a call that passes the checks down to 9
 
 module _ {s : List ℕ} {phase : ℕ} {out : List Float} (p : Passed s phase out) where
@@ -125,8 +131,7 @@ module _ {s : List ℕ} {phase : ℕ} {out : List Float} (p : Passed s phase out
   numbers-count = moved-numbers (kind s) phase (cut (ringCount s) (drop (headSize (kind s)) s)) ∙ ap (λ (n : ℕ). 2 * n) (sym (count-of-blocks s))
 
   pub numbers-most : 2 * pointCount (sheetOf s) ≤ 4352
-  unfolding sheetOf blocks
-  numbers-most = omega (arith, count-of-blocks s, points-by-coedges (cut (ringCount s) (drop (headSize (kind s)) s)), good .coedgesMost)
+  numbers-most = points-most s (p .reads)
 
   pub numbers-fit : 2 * pointCount (sheetOf s) ≤ length out
   unfolding roomWrong
@@ -136,9 +141,12 @@ module _ {s : List ℕ} {phase : ℕ} {out : List Float} (p : Passed s phase out
   unfolding later first
   later-is = rw (p .phaseRight, p .roomRight)
 
+  -- the checks 11 to 14 are left
+  pub refusal-left : first (chartChecks s phase (length out)) ≡ first (frameChecks (sheetOf s) phase)
+  refusal-left = past-reading s phase out (p .reads) ∙ later-is
+
   refusal-is : first (chartChecks s phase (length out)) ≡ first (stageChecks (sense s) (frameOf (kind s) moved) moved)
-  refusal-is =
-      past-reading s phase out (p .reads) ∙ later-is ∙ ap first (sheet-checks s phase)
+  refusal-is = refusal-left ∙ ap first (sheet-checks s phase)
 
   -- the numbers that the stages settle are the call's
   numbers-are : foundIn (sense s) phase (frameOf (kind s) moved) moved ≡ chartOf s phase out .numbers

@@ -7,14 +7,26 @@ use lib.Ieee.{Float}
 use lib.ListN.{length, getD, take, drop, length-append, length-map}
 use Rattle.leaves.proofs.Folds.{sum-cons}
 use Rattle.sheet.specs.Checks.{coedgeTotal}
-use Rattle.sheet.specs.Content.{Coedge, ringPoints, flat, pairs}
+use Rattle.sheet.specs.Content.{Coedge, Sheet, ringPoints, flat, pairs}
 use Rattle.sheet.specs.Layout.{blockSize, ring, cut, blocks, headSize, kind, ringCount, sheetOf}
+use Rattle.sheet.proofs.BlockOrder.{withRings}
 use Rattle.sheet.proofs.Blocks.{ring-length, ring-points-length, first-byte}
 use Rattle.sheet.proofs.Walks.{cut-step, cut-end}
 use Rattle.rings.proofs.Flat.{flat-append, length-flat, length-pairs}
 use Rattle.rings.proofs.Moved.{length-moved}
 use Rattle.chart.specs.Chart.{pointCount, writtenPoint}
 use Rattle.chart.specs.Stages.{movedBlock}
+
+-- ---- the points of rings
+
+module _ (s : Sheet) where
+  pub count-none : pointCount (withRings s []) ≡ 0
+  unfolding pointCount
+  count-none = refl
+
+  pub count-cons : (r : List Coedge) (rs : List (List Coedge)) → pointCount (withRings s (r ∷ rs)) ≡ length (ringPoints r) + pointCount (withRings s rs)
+  unfolding pointCount
+  count-cons r rs = sum-cons (λ (r : List Coedge). length (ringPoints r)) r rs
 
 -- ---- the points of blocks
 

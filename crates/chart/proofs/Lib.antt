@@ -14,6 +14,8 @@ pub mod Settling
 pub mod Preparing
 -- the call
 pub mod Calling
+-- what a caller reads in its answer
+pub mod Called
 -- the search finds the clearest covered grid point
 pub mod Clearest
 -- rules 7 and 8 over the rings

@@ -1,20 +1,24 @@
--- The outcome by the refusal's number, and the chart's table: the rows of the layout, then those of what the bytes say.
+-- The outcome by the refusal's number, and the tables: the chart's, the rows of the layout, then those of what the bytes say; and what every table has in common, the rows down to a number, and those behind.
 use mathlib.Core.Path.{_≡_, refl, sym, ap, _∙_}
+use mathlib.Core.Logic.{_⊎_, ⊎-elim}
 use mathlib.Core.Bool.{Bool, true, false, cond}
 use mathlib.Core.List.{List, [], _∷_, _++_}
-use Prim.Native.Nat.{ℕ, _≤_}
+use Prim.Native.Nat.{ℕ, _≤_, _<_}
+use native.Mathlib.Decide.{ℕ-discrete}
 use native.Mathlib.Omega.{arith}
-use lib.Dec.{eqb}
+use lib.Dec.{eqb, leb}
 use lib.ListN.{length}
-use borrow.Author.Tests.{eqb-true}
+use borrow.Author.Tests.{le-leb, lt-leb, leb-true}
 use lib.Ieee.{Float}
-use Rattle.leaves.proofs.Folds.{All}
 use Rattle.sheet.specs.Content.{Sheet}
 use Rattle.sheet.specs.Lists.{over}
 use Rattle.sheet.specs.Layout.{sheetOf}
 use Rattle.sheet.specs.Checks.{Check, check, first, layoutChecks, contentChecks}
-use Rattle.chart.specs.Answer.{Numbers, refused}
-use Rattle.chart.specs.Chart.{Charted, charted, answered, chosen, frame, movedRings, outcome, written, phaseWrong, roomWrong, frameChecks, chartChecks, chartOf}
+use Rattle.sheet.proofs.Checked.{Beyond, Numbered, Within, first-refused}
+use Rattle.chart.specs.Answer.{Numbers, refused, settled}
+use Rattle.chart.specs.Chart.{Charted, charted, answered, chosen, frame, movedRings, outcome, written, phaseWrong, roomWrong, noneClear, frameChecks, chartChecks, chartOf}
+use Rattle.chart.specs.Demand.{Passes, downTo}
+use Rattle.chart.proofs.Answers.{settled-refused, settled-status}
 
 -- ---- the outcome
 
@@ -39,6 +43,14 @@ pub answered-status : (s : Sheet) (phase : ℕ) → answered (frame s phase) pha
 unfolding answered
 answered-status s phase = refl
 
+-- ---- what the checks settle
+
+-- by one last row
+pub settled-last : (n : ℕ) → 0 < n → (b : Bool) (numbers : Numbers) → settled (first (check n b ∷ [])) numbers ≡ cond b (refused n) numbers
+unfolding first settled
+settled-last n h true numbers = settled-refused n numbers (λ e. omega arith)
+settled-last n h false numbers = refl
+
 -- ---- the table
 
 -- the rows behind the layout's
@@ -50,7 +62,7 @@ pub chart-checks : (s : List ℕ) (phase room : ℕ) → chartChecks s phase roo
 unfolding chartChecks laterChecks layoutChecks
 chart-checks s phase room = refl
 
-pub first-most : (n : ℕ) (cs : List Check) → All (λ (c : Check). c .number ≤ n) cs → first cs ≤ n
+pub first-most : (n : ℕ) (cs : List Check) → Within n cs → first cs ≤ n
 unfolding first
 first-most n [] h = omega arith
 first-most n (c ∷ cs) h = by (c .fails) (first-most n cs (h .1))
@@ -58,6 +70,71 @@ first-most n (c ∷ cs) h = by (c .fails) (first-most n cs (h .1))
     by : (b : Bool) → first cs ≤ n → cond b (c .number) (first cs) ≤ n
     by true k = h .0
     by false k = k
+
+-- ---- the rows of a table down to a number, and those behind
+
+-- the rows of cs down to n, and then these, are the table
+abbrev pub Parted : ℕ → List Check → List Check → Type 0
+Parted n cs later = cs ≡ downTo n cs ++ later
+
+pub down-within : (n : ℕ) (cs : List Check) → Within n (downTo n cs)
+unfolding downTo
+down-within n [] = tt
+down-within n (c ∷ cs) = by (leb (c .number) n) refl (down-within n cs)
+  where
+    by : (b : Bool) → leb (c .number) n ≡ b → Within n (downTo n cs) → Within n (cond b (c ∷ downTo n cs) (downTo n cs))
+    by true e h = (leb-true (c .number) n e, h)
+    by false e h = h
+
+pub down-numbered : (n : ℕ) (cs : List Check) → Numbered cs → Numbered (downTo n cs)
+unfolding downTo
+down-numbered n [] h = tt
+down-numbered n (c ∷ cs) h = by (leb (c .number) n) (down-numbered n cs (h .1))
+  where
+    by : (b : Bool) → Numbered (downTo n cs) → Numbered (cond b (c ∷ downTo n cs) (downTo n cs))
+    by true k = (h .0, k)
+    by false k = k
+
+down-none : (n : ℕ) (cs : List Check) → Beyond n cs → downTo n cs ≡ []
+unfolding downTo
+down-none n [] h = refl
+down-none n (c ∷ cs) h = rw (lt-leb (c .number) n (h .0)) (down-none n cs (h .1))
+
+down-append : (n : ℕ) (xs ys : List Check) → Within n xs → Beyond n ys → downTo n (xs ++ ys) ≡ xs
+unfolding downTo
+down-append n [] ys h k = down-none n ys k
+down-append n (c ∷ cs) ys h k = rw (le-leb (c .number) n (h .0)) (ap (λ (xs : List Check). c ∷ xs) (down-append n cs ys (h .1) k))
+
+pub parted : (n : ℕ) (xs ys : List Check) → Within n xs → Beyond n ys → Parted n (xs ++ ys) ys
+parted n xs ys h k = ap (λ (zs : List Check). zs ++ ys) (sym (down-append n xs ys h k))
+
+module _ (n : ℕ) (cs later : List Check) (parts : Parted n cs later) where
+  -- where one of the rows down to n fails, the first that does is the table's
+  pub first-above : (Passes n cs → ⊥) → first cs ≡ first (downTo n cs)
+  first-above h = ap first parts ∙ first-refused (downTo n cs) later h
+
+  -- they pass where none fails, or a later one is the first
+  pub first-passes : (first cs ≡ 0) ⊎ (n < first cs) → Passes n cs
+  first-passes h = by (ℕ-discrete (first (downTo n cs)) 0)
+    where
+      by : Dec (first (downTo n cs) ≡ 0) → Passes n cs
+      by (yes e) = e
+      by (no k) =
+          let most = first-most n (downTo n cs) (down-within n cs) in
+          let same = first-above k in
+          ⊎-elim (λ e. sym same ∙ e) (λ l. absurd (omega arith)) h
+
+-- ---- checks 11 to 14
+
+pub frame-numbered : (s : Sheet) (phase : ℕ) → Numbered (frameChecks s phase)
+unfolding frameChecks
+frame-numbered s phase = omega arith
+
+pub frame-parted : (s : Sheet) (phase : ℕ) → Parted 13 (frameChecks s phase) (check 14 (noneClear (chosen s phase)) ∷ [])
+unfolding downTo frameChecks
+frame-parted s phase = refl
+
+-- ---- the chart
 
 module _ (s : List ℕ) (phase : ℕ) (out : List Float) where
   pub chart-outcome : chartOf s phase out ≡ outcome (first (chartChecks s phase (length out))) (sheetOf s) phase out
@@ -73,9 +150,7 @@ module _ (s : List ℕ) (phase : ℕ) (out : List Float) where
 
   -- the status is the first check that fails, or 0
   pub chart-status : chartOf s phase out .numbers .status ≡ first (chartChecks s phase (length out))
-  chart-status = ap (λ (n : Numbers). n .status) chart-numbers ∙ by (eqb (first (chartChecks s phase (length out))) 0) refl
-    where
-      by : (b : Bool) → eqb (first (chartChecks s phase (length out))) 0 ≡ b
-          → cond b (answered (frame (sheetOf s) phase) phase (chosen (sheetOf s) phase)) (refused (first (chartChecks s phase (length out)))) .status ≡ first (chartChecks s phase (length out))
-      by true e = answered-status (sheetOf s) phase ∙ sym (eqb-true (first (chartChecks s phase (length out))) 0 e)
-      by false e = refl
+  unfolding settled
+  chart-status =
+      ap (λ (n : Numbers). n .status) chart-numbers
+      ∙ settled-status (first (chartChecks s phase (length out))) (answered (frame (sheetOf s) phase) phase (chosen (sheetOf s) phase)) (answered-status (sheetOf s) phase)

@@ -17,7 +17,6 @@ ghost use lib.Dec.{eqb};
 ghost use Rattle.sheet.specs.Checks.{first};
 ghost use Prim.Native.Nat.{_*_, _≤_};
 ghost use lib.ListN.{length};
-ghost use Rattle.sheet.specs.Content.{pairs};
 ghost use Rattle.sheet.specs.Layout.{ringCount, sheetOf};
 ghost use Rattle.chart.specs.Answer.{paper};
 ghost use Rattle.chart.specs.Chart.{phaseWrong, pointCount, candidate, answered, charted, chartOf};

@@ -2,7 +2,7 @@
 use crate::candidate::part;
 use crate::frame::Frame;
 ghost use mathlib.Core.Path.{_≡_};
-ghost use Prim.Native.Nat.{ℕ, _≤_};
+ghost use Prim.Native.Nat.{ℕ};
 ghost use lib.ListN.{length};
 ghost use Rattle.sheet.specs.Content.{point, pairs};
 ghost use Rattle.rings.specs.Coverage.{crossing as crossingOf};

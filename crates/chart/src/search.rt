@@ -13,7 +13,7 @@ ghost use Rattle.sheet.specs.Content.{point};
 ghost use Rattle.chart.specs.Chart.{clearance, crossings as crossingsOf, covered, candidate};
 ghost use Rattle.chart.specs.Grid.{gridOf, gridPoint};
 ghost use Rattle.chart.specs.Parts.{ringsFrom, Ascends};
-ghost use Rattle.chart.specs.Search.{column as columnOf, search as searchOf};
+ghost use Rattle.chart.specs.Search.{column as columnOf};
 
 // The larger of `best` and the clearance of (u, v): the least distance to a segment of any ring.
 fn larger_clearance(frame: Frame, points: &[f64], ends: &[usize], u: f64, v: f64, best: f64) -> f64

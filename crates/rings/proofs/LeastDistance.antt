@@ -1,6 +1,6 @@
 -- The least distance to a ring's segments, and to those of many rings, whatever the distance, as long as none is -0: it fits where the start does, it is no NaN where the start is none,
 -- and it is the same for every order of the rings.
-use mathlib.Core.Path.{_≡_, sym, _∙_}
+use mathlib.Core.Path.{_≡_, refl, sym, _∙_}
 use mathlib.Core.Bool.{not}
 use mathlib.Core.List.{List, foldl, foldl-append, List·Permᴰ, List·Permᴰ·append-comm}
 use lib.Dec.{T}
@@ -28,6 +28,11 @@ module _ {A S : Type 0} (step : S → A → S) (P : S → Type 0) (keeps : (s : 
 -- with one segment more
 abbrev pub leastStep : {A : Type 0} → (Between A → Float) → Float → Between A → Float
 leastStep distance d s = smallerOf d (distance s)
+
+-- over a ring's segments
+pub least-fold : {A : Type 0} (distance : Between A → Float) (d : Float) (ring : List A) → leastOf distance d ring ≡ foldl (leastStep distance) d (segments ring)
+unfolding leastOf
+least-fold distance d ring = refl
 
 abbrev Held : Float → Type 0
 Held d = T (fits binary64 d)

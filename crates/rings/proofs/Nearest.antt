@@ -8,8 +8,7 @@ use Rattle.leaves.specs.Bounds.{smallerOf}
 use Rattle.leaves.specs.Hypot.{hypotOfKey}
 use Rattle.leaves.proofs.Choices.{Clear}
 use Rattle.leaves.proofs.Folds.{All, all-of, fold-keeps}
-use Rattle.leaves.proofs.Hypotenuses.{Key, key-is, smaller-key, least-hypot, hypot-of-key-is, hypot-by-key, hypot-clear}
-use Rattle.leaves.proofs.Signs.{clear-of-sign}
+use Rattle.leaves.proofs.Hypotenuses.{Key, key-is, smaller-key, least-hypot, hypot-by-key, hypot-clear}
 use Rattle.sheet.specs.Content.{Point}
 use Rattle.sheet.proofs.Permutations.{all-map}
 use Rattle.rings.specs.Segments.{Between, Segment, segments}
@@ -17,9 +16,6 @@ use Rattle.rings.specs.Clearance.{residual, copy, distance, leastOf, nea
 use Rattle.rings.proofs.LeastDistance.{leastStep}
 
 module _ {A : Type 0} (key : Between A → Float) (keyed : (s : Between A) → Key (key s)) where
-  pub clear-by-key : (s : Between A) → Clear binary64 (hypotOfKey (key s))
-  clear-by-key s = let u = hypot-of-key-is (key s) (keyed s) in record { held = u .held; unmarked = clear-of-sign (hypotOfKey (key s)) (u .plain) }
-
   -- ---- one ring
 
   all-keyed : (ss : List (Between A)) → All (λ (s : Between A). Key (key s)) ss

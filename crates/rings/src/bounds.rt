@@ -2,7 +2,6 @@
 use leaves::constants::PI;
 ghost use mathlib.Core.Path.{_≡_};
 ghost use mathlib.Core.List.{map};
-ghost use lib.ListN.{length};
 ghost use Rattle.sheet.specs.Content.{pairs};
 ghost use Rattle.rings.specs.Bounds.{least as leastOf, greatest as greatestOf, axisOf, goesAround, overPi};
 

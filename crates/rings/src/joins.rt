@@ -4,7 +4,6 @@ use leaves::constants::JOIN_LIMIT;
 use leaves::constants::TAU;
 ghost use mathlib.Core.Path.{_≡_};
 ghost use Prim.Native.Nat.{_+_, _*_};
-ghost use lib.ListN.{length};
 ghost use Rattle.sheet.specs.Content.{point, pairs};
 ghost use Rattle.rings.specs.Joins.{gapU, join, wide, ringOpen, every};
 

@@ -2,10 +2,10 @@
 use crate::turns::turns;
 use leaves::constants::TAU;
 ghost use mathlib.Core.Path.{_≡_};
-ghost use mathlib.Core.List.{List, map};
+ghost use mathlib.Core.List.{map};
 ghost use Prim.Native.Nat.{_+_, _*_, _≤_};
 ghost use lib.ListN.{length, drop};
-ghost use Rattle.sheet.specs.Content.{Point, point, ringPoints, flat, onPoints};
+ghost use Rattle.sheet.specs.Content.{point, ringPoints, flat, onPoints};
 ghost use Rattle.sheet.specs.Lists.{over};
 ghost use Rattle.sheet.specs.Layout.{ring, points as pointsAt};
 ghost use Rattle.rings.specs.Unroll.{near, turned, moved, movedRing};

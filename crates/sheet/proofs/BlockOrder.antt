@@ -18,7 +18,7 @@ use Rattle.sheet.specs.Checks.{first, lengthWrong, versionWrong, kindWro
 use Rattle.sheet.proofs.Blocks.{Block, whole-cut, cut-length, cut-blocks, cut-flatten, fill-flatten}
 use Rattle.sheet.proofs.Checked.{laid, first-none}
 use Rattle.sheet.proofs.Permutations.{perm-length, flatten-perm, map-perm, all-map}
-use Rattle.sheet.proofs.Reading.{ClearPoint, ring-clear}
+use Rattle.sheet.proofs.Reading.{ClearPoint, ClearDeviation, ring-clear, ring-deviations}
 
 -- the sheet with these rings in place of its own
 abbrev pub withRings : Sheet → List (List Coedge) → Sheet
@@ -181,7 +181,16 @@ module _ (s : List ℕ) (reads : first (layoutChecks s) ≡ 0) where
     unfolding sheetOf
     its-rings = map-perm ring d
 
--- no coordinate that is read is -0
+-- the rings are those of the blocks
+pub rings-are : (s : List ℕ) → sheetOf s .rings ≡ map ring (blocks s)
+unfolding sheetOf
+rings-are s = refl
+
+-- no coordinate that is read is -0, and no deviation
 pub rings-clear : (s : List ℕ) → All (λ (r : List Coedge). All ClearPoint (ringPoints r)) (sheetOf s .rings)
 unfolding sheetOf
 rings-clear s = all-map (λ (r : List Coedge). All ClearPoint (ringPoints r)) ring (blocks s) (all-of (λ (b : List ℕ). All ClearPoint (ringPoints (ring b))) ring-clear (blocks s))
+
+pub deviations-clear : (s : List ℕ) → All (All ClearDeviation) (sheetOf s .rings)
+unfolding sheetOf
+deviations-clear s = all-map (All ClearDeviation) ring (blocks s) (all-of (λ (b : List ℕ). All ClearDeviation (ring b)) ring-deviations (blocks s))

@@ -7,15 +7,16 @@ use native.Mathlib.Omega.{arith}
 use lib.Dec.{eqb, ltb}
 use lib.ListN.{length, drop}
 use borrow.Author.Tests.{ltb-false, eqb-true, eqb-false, not-false}
-use Rattle.leaves.proofs.Folds.{All}
+use Rattle.leaves.proofs.Folds.{All, all-append}
 use Rattle.sheet.specs.Content.{Coedge, Sheet}
 use Rattle.sheet.specs.Lists.{anyOf}
 use Rattle.sheet.specs.Layout.{lengthField, version, kind, sense, ringCount, headSize, plane, blocks, cut, ring, sheetOf}
 use Rattle.sheet.specs.Checks.{Check, first, lengthWrong, versionWrong, kindWrong, countWrong, fill, blocksWrong, empty, coedgeTotal, coedgesWrong, ringWrong, planeWrong, numbersWrong, layoutChecks, contentChecks}
+use Rattle.sheet.proofs.Permutations.{all-weaken}
 
 -- ---- tests
 
-neither : (a b : Bool) → (a || b) ≡ false → (a ≡ false) × (b ≡ false)
+pub neither : (a b : Bool) → (a || b) ≡ false → (a ≡ false) × (b ≡ false)
 neither false b e = (refl, e)
 neither true b e = absurd (true≢false e)
 
@@ -32,8 +33,19 @@ any-false test (x ∷ xs) e =
 abbrev pub Numbered : List Check → Type 0
 Numbered cs = All (λ (c : Check). 0 < c .number) cs
 
+-- n is above no check's number: the rows are of a table's part down to n
+abbrev pub Within : ℕ → List Check → Type 0
+Within n cs = All (λ (c : Check). c .number ≤ n) cs
+
+-- the rows are of the part below n
+abbrev pub Beyond : ℕ → List Check → Type 0
+Beyond n cs = All (λ (c : Check). n < c .number) cs
+
 abbrev pub NoneFails : List Check → Type 0
 NoneFails cs = All (λ (c : Check). c .fails ≡ false) cs
+
+pub within-up : (m n : ℕ) → m ≤ n → (cs : List Check) → Within m cs → Within n cs
+within-up m n h cs k = all-weaken (λ (c : Check). c .number ≤ m) (λ (c : Check). c .number ≤ n) (λ c l. omega arith) cs k
 
 no-number : (b : Bool) (m r : ℕ) → 0 < m → cond b m r ≡ 0 → (b ≡ false) × (r ≡ 0)
 no-number false m r h e = (refl, e)
@@ -50,6 +62,14 @@ pub first-none : (cs : List Check) → NoneFails cs → first cs ≡ 0
 unfolding first
 first-none [] h = refl
 first-none (c ∷ cs) h = rw (h .0) (first-none cs (h .1))
+
+pub first-here : (c : Check) (cs : List Check) → c .fails ≡ true → first (c ∷ cs) ≡ c .number
+unfolding first
+first-here c cs e = rw e
+
+pub first-later : (c : Check) (cs : List Check) → c .fails ≡ false → first (c ∷ cs) ≡ first cs
+unfolding first
+first-later c cs e = rw e
 
 -- the checks of xs come first
 after-none : (xs ys : List Check) → NoneFails xs → first (xs ++ ys) ≡ first ys
@@ -87,9 +107,24 @@ pub content-numbered : (s : Sheet) → Numbered (contentChecks s)
 unfolding contentChecks
 content-numbered s = (omega arith, (omega arith, tt))
 
+pub sheet-numbered : (s : List ℕ) → Numbered (layoutChecks s ++ contentChecks (sheetOf s))
+sheet-numbered s = all-append (λ (c : Check). 0 < c .number) (layoutChecks s) (contentChecks (sheetOf s)) (layout-numbered s) (content-numbered (sheetOf s))
+
+pub layout-within : (s : List ℕ) → Within 5 (layoutChecks s)
+unfolding layoutChecks
+layout-within s = (omega arith, (omega arith, (omega arith, (omega arith, (omega arith, tt)))))
+
+pub content-within : (s : Sheet) → Within 7 (contentChecks s)
+unfolding contentChecks
+content-within s = (omega arith, (omega arith, tt))
+
 -- the rings that stand in the blocks: `sheetOf s .rings`, computed
 abbrev pub ringsOf : List ℕ → List (List Coedge)
 ringsOf s = map ring (cut (ringCount s) (drop (headSize (kind s)) s))
+
+pub rings-are : (s : List ℕ) → sheetOf s .rings ≡ ringsOf s
+unfolding sheetOf blocks
+rings-are s = refl
 
 pub table : (s : List ℕ) → first (layoutChecks s ++ contentChecks (sheetOf s)) ≡ cond (lengthWrong s) 1 (cond (versionWrong s) 2 (cond (kindWrong s) 3 (cond (countWrong s) 4 (cond (blocksWrong s) 5 (cond (coedgesWrong (ringsOf s)) 6 (cond (planeWrong (plane s) || anyOf ringWrong (ringsOf s)) 7 0))))))
 unfolding first layoutChecks contentChecks sheetOf blocks numbersWrong

@@ -6,6 +6,8 @@ pub mod Reading
 -- blocks, the rings in them, and the walks over both
 pub mod Blocks
 pub mod Walks
+-- the kind, and a plane's numbers
+pub mod Planes
 -- the checks, and what holds of a sheet that passes them
 pub mod Checked
 -- lists in another order, and a sheet's ring blocks in another order

@@ -1,8 +1,9 @@
--- Lists in another order: mapped, flattened, tested for any.
+-- Lists in another order: mapped, flattened, tested for any. Every order of a mapped list is that of a list in another order, mapped.
 use mathlib.Core.Path.{_≡_, refl, sym, ap, ap₂, _∙_, subst}
 use mathlib.Core.Bool.{Bool, true, false, _||_}
-use mathlib.Core.List.{List, [], _∷_, _++_, map, flatten, append-assoc, List·Permᴰ, List·Permᴰ·nil, List·Permᴰ·cons, List·Permᴰ·swap, List·Permᴰ·trans, List·Permᴰ·append-comm, Permᴰ·refl, Permᴰ·append-left, Permᴰ·append-right}
+use mathlib.Core.List.{List, [], _∷_, _++_, map, flatten, append-assoc, List·Permᴰ, List·Permᴰ·nil, List·Permᴰ·cons, List·Permᴰ·swap, List·Permᴰ·trans, List·Permᴰ·append-comm, Permᴰ·refl, Permᴰ·append-left, Permᴰ·append-right, head-eq-of-cons-eq, tail-eq-of-cons-eq}
 use Prim.Native.Nat.{suc}
+use native.Mathlib.Omega.{arith}
 use lib.ListN.{length}
 use Rattle.leaves.proofs.Folds.{All, all-append}
 use Rattle.sheet.specs.Lists.{anyOf}
@@ -12,6 +13,28 @@ map-perm f List·Permᴰ·nil = List·Permᴰ·nil
 map-perm f (List·Permᴰ·cons e d) = List·Permᴰ·cons (ap f e) (map-perm f d)
 map-perm f (List·Permᴰ·swap e₁ e₂) = List·Permᴰ·swap (ap f e₁) (ap f e₂)
 map-perm f (List·Permᴰ·trans d₁ d₂) = List·Permᴰ·trans (map-perm f d₁) (map-perm f d₂)
+
+-- a list whose image is put in another order is itself in an order that has this image
+module _ {A B : Type 0} (f : A → B) where
+  lift : {us ys : List B} → List·Permᴰ us ys → (xs : List A) → map f xs ≡ us → (zs : List A) × List·Permᴰ xs zs × (map f zs ≡ ys)
+  lift List·Permᴰ·nil [] e = ([], List·Permᴰ·nil, refl)
+  lift List·Permᴰ·nil (x ∷ xs) e = absurd (omega (arith, ap length e))
+  lift (List·Permᴰ·cons h d) [] e = absurd (omega (arith, ap length e))
+  lift (List·Permᴰ·cons h d) (x ∷ xs) e =
+      let l = lift d xs (tail-eq-of-cons-eq e) in
+      (x ∷ l .0, List·Permᴰ·cons refl (l .1), λ i. (head-eq-of-cons-eq e ∙ h) i ∷ l .2 i)
+  lift (List·Permᴰ·swap h₁ h₂) [] e = absurd (omega (arith, ap length e))
+  lift (List·Permᴰ·swap h₁ h₂) (x ∷ []) e = absurd (omega (arith, ap length e))
+  lift (List·Permᴰ·swap h₁ h₂) (x ∷ y ∷ xs) e =
+      let e′ = tail-eq-of-cons-eq e in
+      (y ∷ x ∷ xs, List·Permᴰ·swap refl refl, λ i. (head-eq-of-cons-eq e′ ∙ h₂) i ∷ (head-eq-of-cons-eq e ∙ h₁) i ∷ tail-eq-of-cons-eq e′ i)
+  lift (List·Permᴰ·trans d₁ d₂) xs e =
+      let l = lift d₁ xs e in
+      let m = lift d₂ (l .0) (l .2) in
+      (m .0, List·Permᴰ·trans (l .1) (m .1), m .2)
+
+  pub lift-perm : (xs : List A) {ys : List B} → List·Permᴰ (map f xs) ys → (zs : List A) × List·Permᴰ xs zs × (map f zs ≡ ys)
+  lift-perm xs d = lift d xs refl
 
 pub perm-length : {A : Type 0} {xs ys : List A} → List·Permᴰ xs ys → length xs ≡ length ys
 perm-length List·Permᴰ·nil = refl

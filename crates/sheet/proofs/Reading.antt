@@ -17,7 +17,7 @@ use Rattle.leaves.specs.Constants.{zero as plusZero}
 use Rattle.leaves.proofs.Choices.{Clear}
 use Rattle.leaves.proofs.Folds.{All, all-append}
 use Rattle.leaves.proofs.Order.{minusZero}
-use Rattle.sheet.specs.Content.{Point, ringPoints}
+use Rattle.sheet.specs.Content.{Point, Coedge, ringPoints}
 use Rattle.sheet.specs.Layout.{big, numberOf, number, numbers, points, coedge, coedges, ring}
 
 -- ---- a pattern that is not 0 without its sign stands for no zero
@@ -94,3 +94,17 @@ coedges-clear (suc n) s = all-append ClearPoint (points 17 (drop 8 s)) (ringPoin
 pub ring-clear : (b : List ℕ) → All ClearPoint (ringPoints (ring b))
 unfolding ring
 ring-clear b = coedges-clear (getD b 0 0) (drop 1 b)
+
+-- ---- the deviations
+
+abbrev pub ClearDeviation : Coedge → Type 0
+ClearDeviation c = Clear binary64 (c .deviation)
+
+coedges-deviations : (n : ℕ) (s : List ℕ) → All ClearDeviation (coedges n s)
+unfolding coedges coedge
+coedges-deviations zero s = tt
+coedges-deviations (suc n) s = (number-clear s, coedges-deviations n (drop 280 s))
+
+pub ring-deviations : (b : List ℕ) → All ClearDeviation (ring b)
+unfolding ring
+ring-deviations b = coedges-deviations (getD b 0 0) (drop 1 b)

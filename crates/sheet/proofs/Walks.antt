@@ -67,6 +67,15 @@ pub coedges-end : (s : List ℕ) (n k : ℕ) → n ≤ k → coedges (n - k) s �
 unfolding coedges
 coedges-end s n k h = ap (λ (m : ℕ). coedges m s) (none-left n k h)
 
+-- the ring in a block, and what stands first in a coedge
+pub ring-is : (block : List ℕ) → ring block ≡ coedges (getD block 0 0) (drop 1 block)
+unfolding ring
+ring-is block = refl
+
+pub deviation-is : (s : List ℕ) → coedge s .deviation ≡ number s
+unfolding coedge
+deviation-is s = refl
+
 -- a point's numbers are two of the numbers
 pub any-point : (n : ℕ) (s : List ℕ) → anyOf pointWrong (points n s) ≡ anyOf (beyond coordinateLimit) (numbers (2 * n) s)
 unfolding anyOf points numbers pointWrong
@@ -99,7 +108,7 @@ axes-of : (s : List ℕ) → drop 3 (numbers 9 s) ≡ numbers 6 (drop 24 s)
 unfolding numbers
 axes-of s = ap (numbers 6) (ap (drop 8) (drop-drop 8 8 s) ∙ drop-drop 8 16 s)
 
-plane-of : (s : List ℕ) → kind s ≡ 0 → plane s ≡ numbers 9 (drop 8 s)
+pub plane-of : (s : List ℕ) → kind s ≡ 0 → plane s ≡ numbers 9 (drop 8 s)
 unfolding plane
 plane-of s e = rw (eq-eqb (kind s) 0 e)
 

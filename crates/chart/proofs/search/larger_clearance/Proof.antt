@@ -1,15 +1,16 @@
 -- `chart::search::larger_clearance` is the larger of `best` and the clearance. The loop's invariant: the least key over the rings that are left, from the least so far, is the least of all; the ends that are left go up from `from`.
 -- A turn takes one ring. The least distance is the hypotenuse of the least key.
-use mathlib.Core.Path.{_≡_, refl, sym, ap, _∙_}
+use mathlib.Core.Path.{_≡_, sym, ap, _∙_}
 use mathlib.Core.Bool.{false}
 use mathlib.Core.List.{List, foldl}
 use Prim.Native.Nat.{ℕ, _+_, _-_, _≤_}
 use native.Mathlib.Omega.{arith}
 use borrow.Author.Needs.{needs}
-use lib.Ieee.{Float, binary64, inf, div, ofBits}
+use lib.Ieee.{Float, inf}
 use lib.ListN.{length, getD, drop}
 use Rattle.leaves.specs.Bounds.{largerOf}
 use Rattle.leaves.specs.Hypot.{hypotOfKey}
+use Rattle.leaves.proofs.ConstantBits.{infinity-bits}
 use Rattle.leaves.proofs.Hypotenuses.{inf-key, hypot-of-inf}
 use Rattle.sheet.specs.Content.{Point, point}
 use Rattle.rings.specs.Clearance.{nearer, nearerKey}
@@ -27,11 +28,6 @@ clearance-by-key : (f : Frame) (rings : List (List Point)) (p : Point) → clear
 unfolding clearance
 clearance-by-key f rings p =
     ap (λ (d : Float). foldl (nearer (f .periodic) (f .period) p) d rings) (sym hypot-of-inf) ∙ nearer-by-key (f .periodic) (f .period) p (inf false) rings inf-key
-
--- 1/0
-infinity : div binary64 (ofBits binary64 0x3FF0000000000000) (ofBits binary64 0) ≡ inf false
-unfolding div ofBits
-infinity = refl
 
 -- ---- the loop
 
@@ -65,7 +61,7 @@ in-list c = end-bound (endsOf c) (c .before .loop .k) (c .loop-test .taken) (c .
 -- ---- the code
 
 loop-holds : tie.Need-loop-holds Inv-loop μ-loop
-loop-holds c = (c .before .before .pre, rw infinity)
+loop-holds c = (c .before .before .pre, rw infinity-bits)
 
 mul-to : tie.Need-mul-to Inv-loop μ-loop
 mul-to c = omega arith
