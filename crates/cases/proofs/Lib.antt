@@ -1,5 +1,4 @@
 -- Laws about the numbers and the lists of recorded calls.
 pub mod Bytes
-pub mod Digits
 pub mod Heads
 pub mod Places

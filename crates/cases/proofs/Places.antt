@@ -1,4 +1,4 @@
--- Laws about the places of a list: one place more is filled, compared or added in.
+-- Laws about the places of a list: one place more is filled, loaded, compared or added in.
 use mathlib.Core.Path.{_≡_, refl, sym, ap, _∙_}
 use mathlib.Core.Bool.{Bool, cond}
 use mathlib.Core.List.{List, [], _∷_, _++_, append-nil}
@@ -6,11 +6,11 @@ use Prim.Native.Nat.{ℕ, zero, suc, _+_, _-_, _*_, _%_, _<_, _≤_}
 use native.Mathlib.Nat.{add-zero, add-assoc, not-suc-le-zero, le-of-suc-le-suc, suc-mul, one-mul, zero-mod, add-mod, mod-add-mod}
 use native.Mathlib.Numerals.{add-one}
 use native.Mathlib.Omega.{arith}
-use lib.ListN.{length, getD, set, drop, replicate}
+use lib.ListN.{length, getD, set, drop, replicate, length-append}
 use lib.Seq.{drop-cons, drop-length}
-use lib.Ieee.{Float, binary64, toBits}
+use lib.Ieee.{Float, binary64, ofBits, toBits}
 use Rattle.cases.specs.BigEndian.{big}
-use Rattle.cases.specs.Places.{shown, wrongFrom, weighted}
+use Rattle.cases.specs.Places.{loaded, shown, wrongFrom, weighted}
 
 -- ---- filled
 
@@ -24,6 +24,25 @@ fill-more n v d l = rw add-one (fill-suc n v d l)
 
 pub fill-end : {A : Type 0} (n : ℕ) (v : A) (d : List A) → n ≡ length d → replicate n v ++ drop n d ≡ replicate (length d) v
 fill-end n v d e = rw (e, drop-length, append-nil)
+
+-- ---- loaded
+
+length-loaded : (n : ℕ) (s : List ℕ) → length (loaded n s) ≡ n
+unfolding loaded
+length-loaded zero s = refl
+length-loaded (suc n) s = simp (length-append, length-loaded n s) (omega arith)
+
+put-behind : {A : Type 0} (front : List A) (x v : A) (d : List A) → set (front ++ (x ∷ d)) (length front) v ≡ (front ++ (v ∷ [])) ++ d
+put-behind [] x v d = refl
+put-behind (y ∷ front) x v d = ap (λ t. y ∷ t) (put-behind front x v d)
+
+pub load-more : (k : ℕ) (s : List ℕ) (d : List Float) (v : Float) → k < length d → v ≡ ofBits binary64 (big s (8 * k) 8) → set (loaded k s ++ drop k d) k v ≡ loaded (k + 1) s ++ drop (k + 1) d
+unfolding loaded
+load-more k s d v h e =
+    rw (add-one k, drop-cons d k v h, ← e) (ap (λ (i : ℕ). set (loaded k s ++ (getD d k v ∷ drop (suc k) d)) i v) (sym (length-loaded k s)) ∙ put-behind (loaded k s) (getD d k v) v (drop (suc k) d))
+
+pub load-end : (k : ℕ) (s : List ℕ) (d : List Float) → k ≡ length d → loaded k s ++ drop k d ≡ loaded (length d) s
+load-end k s d e = rw (e, drop-length, append-nil)
 
 -- ---- compared
 

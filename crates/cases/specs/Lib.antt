@@ -1,5 +1,4 @@
 -- What the contracts of `cases` cite.
 pub mod BigEndian
-pub mod Hexadecimal
 pub mod Places
 pub mod Record

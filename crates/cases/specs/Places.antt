@@ -1,10 +1,15 @@
 -- The places of a list of f64, by their bits.
 use mathlib.Core.Bool.{Bool, not, cond, _&&_}
-use mathlib.Core.List.{List, [], _∷_}
-use Prim.Native.Nat.{ℕ, suc, _+_, _*_}
+use mathlib.Core.List.{List, [], _∷_, _++_}
+use Prim.Native.Nat.{ℕ, zero, suc, _+_, _*_}
 use lib.Dec.{eqb}
-use lib.Ieee.{Float, binary64, isNan, toBits}
+use lib.Ieee.{Float, binary64, isNan, ofBits, toBits}
 use Rattle.cases.specs.BigEndian.{big}
+
+-- the first n numbers of s, each by its eight bytes
+unfoldable pub loaded : ℕ → List ℕ → List Float
+loaded zero s = []
+loaded (suc n) s = loaded n s ++ (ofBits binary64 (big s (8 * n) 8) ∷ [])
 
 -- x is a number, and has these bits
 unfoldable pub shown : Float → ℕ → Bool

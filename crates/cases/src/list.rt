@@ -1,11 +1,12 @@
 // The list that a call is lent.
 use crate::big_endian::u64_at;
 use std::num::wrapping_add_u64;
+use text::bits_of;
 ghost use mathlib.Core.Path.{_≡_};
 ghost use Prim.Native.Nat.{_%_, _^_};
+ghost use lib.Ieee.{binary64, ofBits};
 ghost use lib.ListN.{length, replicate};
-ghost use lib.Ieee.{binary64, toBits};
-ghost use Rattle.cases.specs.Places.{shown, wrongFrom, weighted};
+ghost use Rattle.cases.specs.Places.{loaded, shown, wrongFrom, weighted};
 
 // What every place holds before a recorded call. Bits 40C81C8000000000.
 pub const UNWRITTEN: f64 = 12345.0;
@@ -21,14 +22,25 @@ pub fn fill(list: &mut [f64], x: f64)
     }
 }
 
-// The bits of x; of a NaN, which to_bits does not take, those of the quiet NaN.
-pub fn bits_of(x: f64) -> u64
-    ensures { λ r. ⌜ r ≡ toBits binary64 x ⌝ }
+// The f64 of these bits. from_bits takes no NaN's pattern, so a NaN is made anew.
+fn float(bits: u64) -> f64
+    ensures { λ r. ⌜ r ≡ ofBits binary64 bits ⌝ }
 {
-    if x != x {
-        0x7FF8_0000_0000_0000
+    if 0x7FF0_0000_0000_0000 < bits % 0x8000_0000_0000_0000 {
+        0.0 / 0.0
     } else {
-        f64::to_bits(x)
+        f64::from_bits(bits)
+    }
+}
+
+// Puts in every place the number that stands for it in `numbers`, eight bytes each.
+pub fn load(list: &mut [f64], numbers: &[u8])
+    ensures { λ _. ⌜ now (list .exit) ≡ loaded (length (now (list .entry))) (now (numbers .entry)) ⌝ }
+{
+    let mut k = 0;
+    while k < list.len() {
+        list[k] = float(u64_at(numbers, 8 * k));
+        k += 1;
     }
 }
 

@@ -1,14 +1,14 @@
--- `cases::hexadecimal::hex` is the sixteen digits of n. The invariant: the first i digits of the rest, and then the text from i on, are the digits of n. The measure is the number of digits that are left.
+-- `text::hexadecimal::hex` is the sixteen digits of n. The invariant: the first i digits of the rest, and then the text from i on, are the digits of n. The measure is the number of digits that are left.
 use mathlib.Core.Path.{refl, _≡_}
 use mathlib.Core.List.{append-nil, _++_}
 use Prim.Native.Nat.{_≤_}
 use native.Mathlib.Omega.{arith}
 use lib.ListN.{length, drop, length-set}
 use borrow.Author.Needs.{needs}
-use Rattle.cases.specs.Hexadecimal.{digits}
-use Rattle.cases.proofs.Digits.{digit-more}
-use Rattle.cases.proofs.hexadecimal.hex.Statement.{statement}
-use Rattle.cases.proofs.hexadecimal.hex.Tie as tie
+use Rattle.text.specs.Digits.{digits}
+use Rattle.text.proofs.Fronts.{digit-more}
+use Rattle.text.proofs.hexadecimal.hex.Statement.{statement}
+use Rattle.text.proofs.hexadecimal.hex.Tie as tie
 
 abbrev Inv-loop : tie.InvT-loop
 Inv-loop n text₀ rest₀ i₀ text rest i = (i ≤ 16) × (length text ≡ 16) × (digits i rest ++ drop i text ≡ digits 16 n)

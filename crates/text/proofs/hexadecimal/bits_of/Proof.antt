@@ -1,11 +1,11 @@
--- `cases::list::bits_of` is `toBits`, which gives a NaN the bits of the quiet one.
+-- `text::hexadecimal::bits_of` is `toBits`, which gives a NaN the bits of the quiet one.
 use lib.Ieee.{toBits}
 use lib.Ieee.Compare.{differs-from-itself}
 use denote.Floats.{passes}
 use borrow.Author.Needs.{needs}
 use Rattle.leaves.proofs.Patterns.{equals-itself}
-use Rattle.cases.proofs.list.bits_of.Statement.{statement}
-use Rattle.cases.proofs.list.bits_of.Tie as tie
+use Rattle.text.proofs.hexadecimal.bits_of.Statement.{statement}
+use Rattle.text.proofs.hexadecimal.bits_of.Tie as tie
 
 float-to-bits-result : tie.Need-float-to-bits-result
 float-to-bits-result c = equals-itself _ (c .if1 .left)

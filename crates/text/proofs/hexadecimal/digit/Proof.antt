@@ -1,9 +1,9 @@
--- `cases::hexadecimal::digit` is the ASCII code of the digit, by whether it is below 10.
+-- `text::hexadecimal::digit` is the ASCII code of the digit, by whether it is below 10.
 use borrow.Author.Needs.{needs}
 use borrow.Author.Tests.{lt-ltb, le-ltb}
-use Rattle.cases.specs.Hexadecimal.{digit}
-use Rattle.cases.proofs.hexadecimal.digit.Statement.{statement}
-use Rattle.cases.proofs.hexadecimal.digit.Tie as tie
+use Rattle.text.specs.Digits.{digit}
+use Rattle.text.proofs.hexadecimal.digit.Statement.{statement}
+use Rattle.text.proofs.hexadecimal.digit.Tie as tie
 
 cast-result : tie.Need-cast-result
 cast-result c = search needs

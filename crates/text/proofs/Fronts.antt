@@ -1,4 +1,4 @@
--- Laws about numbers as text: one digit more, in front of those that stand.
+-- Laws about hexadecimal digits: one digit more, in front of those that stand.
 use mathlib.Core.Path.{_≡_, _∙_}
 use mathlib.Core.List.{List, _∷_, _++_, append-assoc}
 use Prim.Native.Nat.{ℕ, zero, suc, _-_, _/_, _%_, _<_, _≤_}
@@ -6,10 +6,10 @@ use native.Mathlib.Nat.{not-suc-le-zero}
 use native.Mathlib.Omega.{arith}
 use lib.ListN.{length, set, drop, length-set}
 use lib.Seq.{drop-cons, getD-set-same, drop-set-lt}
-use Rattle.cases.specs.Hexadecimal.{digit, digits}
+use Rattle.text.specs.Digits.{digit, digits}
 
 -- a list from the place on that was set
-from-set : (l : List ℕ) (i a : ℕ) → i < length l → drop i (set l i a) ≡ a ∷ drop (suc i) l
+pub from-set : (l : List ℕ) (i a : ℕ) → i < length l → drop i (set l i a) ≡ a ∷ drop (suc i) l
 from-set l i a h =
     drop-cons (set l i a) i 0 (rw length-set h) ∙ rw (getD-set-same l i a 0 h, drop-set-lt (suc i) l i a (omega arith))
 

@@ -1,0 +1,4 @@
+-- What the contracts of `text` cite.
+pub mod Digits
+pub mod Line
+pub mod Page
