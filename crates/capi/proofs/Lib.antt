@@ -2,3 +2,5 @@
 
 -- the result list
 pub mod Five
+-- demand 1: what the host sees of a refusal
+pub mod Refusals

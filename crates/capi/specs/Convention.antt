@@ -8,6 +8,8 @@ use lib.ListN.{length}
 use lib.Ieee.{Float, binary64, ofInt}
 use Rattle.chart.specs.Answer.{Numbers}
 use Rattle.chart.specs.Chart.{Charted, chartOf}
+use Rattle.picker.specs.ImagePick.{imagePickOf}
+use Rattle.picker.specs.PlanePick.{planePickOf}
 
 -- ---- the result of every call
 
@@ -46,3 +48,13 @@ seenOf charted points result = seen (returnedOf (charted .numbers) result) (cond
 unfoldable pub chartSeen : List ℕ → ℕ → List Float → List Float → Seen
 unfolding seenOf
 chartSeen sheet phase points result = seenOf (chartOf sheet phase points) points result
+
+-- ---- the picks, which are lent nothing to write
+
+unfoldable pub imagePickReturned : List ℕ → ℕ → List Float → List Float → Returned
+unfolding returnedOf
+imagePickReturned sheet phase images result = returnedOf (imagePickOf sheet phase images) result
+
+unfoldable pub planePickReturned : List ℕ → List Float → Returned
+unfolding returnedOf
+planePickReturned sheet result = returnedOf (planePickOf sheet) result

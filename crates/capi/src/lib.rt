@@ -4,11 +4,12 @@
 // elements.
 mod result;
 
+use crate::result::RESULT_LENGTH;
 use crate::result::put;
 ghost use mathlib.Core.Path.{_≡_};
 ghost use Rattle.leaves.specs.Root.{rootOf};
 ghost use Rattle.leaves.specs.Round.{roundOf};
-ghost use Rattle.capi.specs.Convention.{returned, seen, chartSeen};
+ghost use Rattle.capi.specs.Convention.{returned, seen, chartSeen, imagePickReturned, planePickReturned};
 
 // The chart call: the status returned, the five numbers in `result`, the moved points in `points`.
 #[no_mangle]
@@ -20,10 +21,37 @@ pub extern "C" fn facepoint_chart(
 ) -> u32
     ensures { λ r. ⌜ seen (returned r (now (result .exit))) (now (points .exit)) ≡ chartSeen (now (sheet .entry)) phase (now (points .entry)) (now (result .entry)) ⌝ }
 {
-    if result.len() != 5 {
+    if result.len() != RESULT_LENGTH {
         return 1;
     }
     put(chart::chart(sheet, phase, points), result)
+}
+
+// The image pick: the status returned, the five numbers in `result`.
+#[no_mangle]
+pub extern "C" fn facepoint_image_pick(
+    sheet: &[u8],
+    phase: u32,
+    images: &[f64],
+    result: &mut [f64],
+) -> u32
+    ensures { λ r. ⌜ returned r (now (result .exit)) ≡ imagePickReturned (now (sheet .entry)) phase (now (images .entry)) (now (result .entry)) ⌝ }
+{
+    if result.len() != RESULT_LENGTH {
+        return 1;
+    }
+    put(picker::image_pick(sheet, phase, images), result)
+}
+
+// The plane pick: the status returned, the five numbers in `result`.
+#[no_mangle]
+pub extern "C" fn facepoint_plane_pick(sheet: &[u8], result: &mut [f64]) -> u32
+    ensures { λ r. ⌜ returned r (now (result .exit)) ≡ planePickReturned (now (sheet .entry)) (now (result .entry)) ⌝ }
+{
+    if result.len() != RESULT_LENGTH {
+        return 1;
+    }
+    put(picker::plane_pick(sheet), result)
 }
 
 // The IEEE 754 square root: double facepoint_root(double).

@@ -5,6 +5,9 @@ ghost use lib.ListN.{length};
 ghost use Rattle.chart.specs.Answer.{paper};
 ghost use Rattle.capi.specs.Convention.{five};
 
+// x, y, z, clearance, count.
+pub(crate) const RESULT_LENGTH: usize = 5;
+
 // Puts an answer's five numbers into the list, zeros beside a refusal, and gives its status.
 pub(crate) fn put(answer: Answer, result: &mut [f64]) -> u32
     requires { ⌜ length (now result) ≡ 5 ⌝ }

@@ -1,12 +1,13 @@
-// Replays the recorded calls of data/chart and counts the answers that differ from the record. A record is
-// the sheet's length, the phase and the list's length (u32 each), the sheet, and then what the call leaves:
-// status (u32), x, y, z and clearance (f64), count (u32), and every place of the list (f64), all big-endian.
-// rust/oracle made them (make_replay). A missing file leaves no line, and a file that is cut off or broken
-// has one wrong answer more.
+// Replays the recorded calls of data/, a file for each of the three, and counts the answers that differ from
+// the record. A record is the sheet's length, the phase and the list's length (u32 each), the sheet, and then
+// what the call leaves: status (u32), x, y, z and clearance (f64), count (u32), and every place of the list
+// (f64), all big-endian. The list is the chart's output or image pick's images; plane pick has none.
+// rust/oracle made the files (make_replay). A missing file leaves no line, and a file that is cut off or
+// broken has one wrong answer more.
+use cases::HEAD_SIZE;
 use cases::Head;
 use cases::UNWRITTEN;
 use cases::is_shown;
-use cases::read_whole;
 use cases::u32_at;
 use cases::u64_at;
 use chart::Answer;
@@ -16,8 +17,15 @@ ghost use mathlib.Core.Bool.{_&&_};
 ghost use Prim.Native.Nat.{_≤_};
 ghost use Rattle.replay.specs.Recorded.{recorded};
 
-// A proved loop has to end: this is more than the file has.
+// A proved loop has to end: this is more than a file has.
 const MOST_RECORDS: u64 = 100000;
+
+// The call that a file's records are of.
+enum Call {
+    Chart,
+    ImagePick,
+    PlanePick,
+}
 
 // What the next record showed: a point or a refusal, and whether it is the record's.
 enum Outcome {
@@ -65,53 +73,75 @@ fn is_recorded(
     both(whole, both(place, rest))
 }
 
-// Calls the chart and compares; the numbers beside a refusal are 0.
-fn judge(sheet: &[u8], phase: u32, list: &mut [f64], answer: &[u8; 40], numbers: &[u8]) -> Outcome {
-    cases::fill(list, UNWRITTEN);
-    let result = chart::chart(sheet, phase, list);
-    let places_right = cases::wrong_places(list, numbers) == 0;
+// What a call showed whose list is right or not; the numbers beside a refusal are 0.
+fn compared(result: Answer, list_right: bool, answer: &[u8; 40]) -> Outcome {
     match result {
         Answer::Point(x, y, z, clearance, count) => {
-            Outcome::Point(places_right && is_recorded(answer, 0, x, y, z, clearance, count))
+            Outcome::Point(list_right && is_recorded(answer, 0, x, y, z, clearance, count))
         }
         Answer::Refused(number) => {
-            Outcome::Refusal(places_right && is_recorded(answer, number, 0.0, 0.0, 0.0, 0.0, 0))
+            Outcome::Refusal(list_right && is_recorded(answer, number, 0.0, 0.0, 0.0, 0.0, 0))
         }
+    }
+}
+
+// Makes the call and compares. Only the chart can write its list.
+fn judge(
+    call: Call,
+    sheet: &[u8],
+    phase: u32,
+    list: &mut [f64],
+    answer: &[u8; 40],
+    numbers: &[u8],
+) -> Outcome {
+    match call {
+        Call::Chart => {
+            cases::fill(list, UNWRITTEN);
+            let result = chart::chart(sheet, phase, list);
+            compared(result, cases::wrong_places(list, numbers) == 0, answer)
+        }
+        Call::ImagePick => {
+            cases::load(list, numbers);
+            compared(picker::image_pick(sheet, phase, list), true, answer)
+        }
+        Call::PlanePick => compared(picker::plane_pick(sheet), true, answer),
     }
 }
 
 // Reads the rest of a record, and makes its call.
 fn run_call(
     fd: i32,
+    call: Call,
     sheet: &mut [u8],
     phase: u32,
     list: &mut [f64],
     numbers: &mut [u8],
 ) -> Outcome {
     let mut answer = [0u8; 40];
-    if !read_whole(fd, sheet) {
+    if io::read_full(fd, sheet) != sheet.len() {
         return Outcome::Broken;
     }
-    if !read_whole(fd, &mut answer) {
+    if io::read_full(fd, &mut answer) != 40 {
         return Outcome::Broken;
     }
-    if !read_whole(fd, numbers) {
+    if io::read_full(fd, numbers) != numbers.len() {
         return Outcome::Broken;
     }
-    judge(sheet, phase, list, &answer, numbers)
+    judge(call, sheet, phase, list, &answer, numbers)
 }
 
 // Lends a call its room: the sheet, the list, and the list's recorded numbers.
-fn lend(fd: i32, bytes: usize, phase: u32, places: usize) -> Outcome
+fn lend(fd: i32, call: Call, bytes: usize, phase: u32, places: usize) -> Outcome
     requires { ⌜ bytes ≤ 40000 ⌝ }
-    requires { ⌜ places ≤ 4400 ⌝ }
+    requires { ⌜ places ≤ 6600 ⌝ }
 {
     let mut sheet = [0u8; 40000];
-    let mut list = [0.0f64; 4400];
-    let mut numbers = [0u8; 35200];
+    let mut list = [0.0f64; 6600];
+    let mut numbers = [0u8; 52800];
     let size = 8 * places;
     run_call(
         fd,
+        call,
         &mut sheet[..bytes],
         phase,
         &mut list[..places],
@@ -119,10 +149,12 @@ fn lend(fd: i32, bytes: usize, phase: u32, places: usize) -> Outcome
     )
 }
 
-fn run_record(fd: i32) -> Outcome {
-    let head = cases::read_head(fd);
+fn run_record(fd: i32, call: Call) -> Outcome {
+    let mut bytes = [0u8; HEAD_SIZE];
+    let got = io::read_full(fd, &mut bytes);
+    let head = cases::head_of(&bytes[..got]);
     match head {
-        Head::Call(bytes, phase, places) => lend(fd, bytes, phase, places),
+        Head::Call(size, phase, places) => lend(fd, call, size, phase, places),
         Head::Broken => Outcome::Broken,
         Head::Ended => Outcome::Ended,
     }
@@ -134,12 +166,12 @@ fn number(b: bool) -> u64
     if b { 1 } else { 0 }
 }
 
-fn run_records(fd: i32) -> Tally {
+fn run_records(fd: i32, call: Call) -> Tally {
     let mut read: u64 = 0;
     let mut points: u64 = 0;
     let mut wrong: u64 = 0;
     while read < MOST_RECORDS {
-        let outcome = run_record(fd);
+        let outcome = run_record(fd, call);
         match outcome {
             Outcome::Point(right) => {
                 points += 1;
@@ -173,17 +205,19 @@ fn print_tally(name: &[u8], tally: Tally) {
     io::write_all(STDOUT_FILENO, b" wrong\n");
 }
 
-fn run_file(name: &[u8]) {
+fn run_file(name: &[u8], call: Call) {
     let fd = os::open_read(name);
     if fd < 0 {
         os::fail(name);
         return;
     }
-    let tally = run_records(fd);
+    let tally = run_records(fd, call);
     libc::close(fd);
     print_tally(name, tally);
 }
 
 fn main() {
-    run_file(b"chart");
+    run_file(b"chart", Call::Chart);
+    run_file(b"image_pick", Call::ImagePick);
+    run_file(b"plane_pick", Call::PlanePick);
 }

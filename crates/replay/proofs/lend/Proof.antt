@@ -27,7 +27,7 @@ array-borrow-prefix-numbers c = search needs
 
 slice-aggregate-run-call-3 : tie.Need-slice-aggregate-run-call-3
 slice-aggregate-run-call-3 c =
-    let l : 8 * c .before .before .before .args .places ≤ 35200 = omega arith in
+    let l : 8 * c .before .before .before .args .places ≤ 52800 = omega arith in
     sym (length-take-le _ _ l)
 
 run-call-requires : tie.Need-run-call-requires

@@ -1,18 +1,34 @@
 -- `replay::run_record` is safe: the lengths that it lends by are those of a head, which are tested.
 use borrow.Author.Needs.{needs}
 use Rattle.cases.specs.Record.{Within}
+use Rattle.cases.proofs.Heads.{head-within}
 use Rattle.replay.proofs.run_record.Statement.{statement}
 use Rattle.replay.proofs.run_record.Tie as tie
 
-read-head-requires : tie.Need-read-head-requires
-read-head-requires c κs = search needs
+slice-aggregate-read-full : tie.Need-slice-aggregate-read-full
+slice-aggregate-read-full c = search needs
+
+read-full-requires : tie.Need-read-full-requires
+read-full-requires c κs = search needs
+
+array-share-prefix-bytes : tie.Need-array-share-prefix-bytes
+array-share-prefix-bytes c = search needs
+
+slice-aggregate-head-of : tie.Need-slice-aggregate-head-of
+slice-aggregate-head-of c = search needs
+
+head-of-requires : tie.Need-head-of-requires
+head-of-requires c κs = search needs
 
 enum-known-head : tie.Need-enum-known-head
 enum-known-head c = search needs
 
 lend-requires : tie.Need-lend-requires
 unfolding Within
-lend-requires c κs = rw (c .before .head .given .1) at (c .before .before .before .read-head .ensures)
+lend-requires c κs =
+    let h = c .before in
+    let w : Within (h .before .before .head-of .result) = rw (h .before .before .head-of .ensures) (head-within _) in
+    rw (h .head .given .1) at w
 
 enum-told : tie.Need-enum-told
 enum-told c = search needs
@@ -33,7 +49,11 @@ pub run-record-spec : {M : Type 1} → statement M
 run-record-spec =
     tie.close
     (tie.spec
-    read-head-requires
+    slice-aggregate-read-full
+    read-full-requires
+    array-share-prefix-bytes
+    slice-aggregate-head-of
+    head-of-requires
     enum-known-head
     lend-requires
     enum-told

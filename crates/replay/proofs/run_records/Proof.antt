@@ -7,10 +7,10 @@ use Rattle.replay.proofs.run_records.Statement.{statement}
 use Rattle.replay.proofs.run_records.Tie as tie
 
 abbrev Inv-loop : tie.InvT-loop
-Inv-loop fd read₀ points₀ wrong₀ read points wrong = (read ≤ 100000) × (points ≤ read) × (wrong ≤ read)
+Inv-loop fd call read₀ points₀ wrong₀ read points wrong = (read ≤ 100000) × (points ≤ read) × (wrong ≤ read)
 
 abbrev μ-loop : tie.MeasureT-loop
-μ-loop fd read₀ points₀ wrong₀ read points wrong = 100000 - read
+μ-loop fd call read₀ points₀ wrong₀ read points wrong = 100000 - read
 
 loop-holds : tie.Need-loop-holds Inv-loop μ-loop
 loop-holds c = search needs

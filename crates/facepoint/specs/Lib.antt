@@ -1,0 +1,4 @@
+-- What the contracts of `facepoint` cite.
+pub mod Answer
+pub mod Line
+pub mod Read

@@ -1,0 +1,21 @@
+-- `picker::plane::on_axes` is `onAxes`: each coordinate by the contract of `reach`.
+use borrow.Author.Needs.{needs}
+use Rattle.picker.specs.PlanePick.{onAxes}
+use Rattle.picker.proofs.plane.on_axes.Statement.{statement}
+use Rattle.picker.proofs.plane.on_axes.Tie as tie
+
+reach-requires : tie.Need-reach-requires
+reach-requires c κs = search needs
+
+reach-requires-2 : tie.Need-reach-requires-2
+reach-requires-2 c κs = search needs
+
+reach-requires-3 : tie.Need-reach-requires-3
+reach-requires-3 c κs = search needs
+
+returns : tie.Need-returns
+unfolding onAxes
+returns c = rw (c .before .before .reach .ensures, c .before .reach2 .ensures, c .reach3 .ensures)
+
+pub on-axes-spec : {M : Type 1} → statement M
+on-axes-spec = tie.close (tie.spec reach-requires reach-requires-2 reach-requires-3 returns)

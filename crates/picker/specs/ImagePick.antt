@@ -1,0 +1,42 @@
+-- Document 01, "image pick (sheet, phase, image list of f64)": the table, read top to bottom, and the last image, "as the host gives it".
+use mathlib.Core.Bool.{Bool, not, _||_}
+use mathlib.Core.List.{List, [], _∷_, _++_}
+use Prim.Native.Nat.{ℕ, _+_, _*_}
+use lib.Dec.{eqb}
+use lib.Ieee.{Float, binary64, ofBits}
+use lib.ListN.{length}
+use Rattle.sheet.specs.Content.{Sheet}
+use Rattle.sheet.specs.Lists.{anyOf}
+use Rattle.sheet.specs.Layout.{sheetOf}
+use Rattle.sheet.specs.Checks.{Check, check, first, beyond, layoutChecks, contentChecks}
+use Rattle.chart.specs.Answer.{Numbers, settled}
+use Rattle.chart.specs.Chart.{chosen, pointCount, phaseWrong, frameChecks}
+use Rattle.picker.specs.Images.{ringImages, lastImage}
+use Rattle.picker.specs.Physical.{tooClose, answeredAt}
+
+-- 2^30
+abbrev pub imageLimit : Float
+imageLimit = ofBits binary64 0x41D0000000000000
+
+-- 10: "image list not 3 × (points + 1) long, or an entry not finite or above 2^30 in magnitude"
+unfoldable pub imagesWrong : Sheet → List Float → Bool
+imagesWrong s images = not (eqb (length images) (3 * (pointCount s + 1))) || anyOf (beyond imageLimit) images
+
+unfoldable pub imageClose : Sheet → List Float → Bool
+unfolding tooClose ringImages lastImage
+imageClose s images = tooClose s (lastImage s images) (ringImages (s .rings) images)
+
+unfoldable pub imageChecks : List ℕ → ℕ → List Float → List Check
+unfolding imagesWrong imageClose
+imageChecks s phase images =
+    layoutChecks s
+    ++ contentChecks (sheetOf s)
+    ++ check 8 (phaseWrong (sheetOf s) phase)
+    ∷ check 10 (imagesWrong (sheetOf s) images)
+    ∷ frameChecks (sheetOf s) phase
+    ++ check 15 (imageClose (sheetOf s) images)
+    ∷ []
+
+unfoldable pub imagePickOf : List ℕ → ℕ → List Float → Numbers
+unfolding imageChecks answeredAt lastImage
+imagePickOf s phase images = settled (first (imageChecks s phase images)) (answeredAt (lastImage (sheetOf s) images) (chosen (sheetOf s) phase))

@@ -1,0 +1,45 @@
+-- Document 01, row 15: "picks: physical clearance not above larger-of(8 × greatest deviation, 1e-7)", and what a pick answers.
+use mathlib.Core.Bool.{Bool, not, cond}
+use mathlib.Core.List.{List, foldl}
+use Prim.Native.Nat.{ℕ}
+use lib.Ieee.{Float, binary64, ofBits, mul, lt}
+use Rattle.leaves.specs.Bounds.{largerOf}
+use Rattle.leaves.specs.Constants.{zero, physicalLimit}
+use Rattle.sheet.specs.Content.{Coedge, Sheet}
+use Rattle.chart.specs.Answer.{Numbers, refused}
+use Rattle.chart.specs.declared.candidate.Candidate.{Candidate}
+use Rattle.picker.specs.Space.{physicalClearance}
+use Rattle.picker.specs.declared.space.Place.{Place}
+
+-- the larger of `so far` and the deviations of a ring's coedges
+unfoldable pub deviates : Float → List Coedge → Float
+deviates soFar ring = foldl (λ (d : Float) (c : Coedge). largerOf d (c .deviation)) soFar ring
+
+unfoldable pub greatestDeviation : List (List Coedge) → Float
+unfolding deviates
+greatestDeviation rings = foldl deviates zero rings
+
+abbrev pub eight : Float
+eight = ofBits binary64 0x4020000000000000
+
+unfoldable pub physicalLeast : List (List Coedge) → Float
+unfolding mul greatestDeviation
+physicalLeast rings = largerOf (mul binary64 (greatestDeviation rings) eight) physicalLimit
+
+-- 15, of a point and the images of all rings
+unfoldable pub tooClose : Sheet → Place → List (List Place) → Bool
+unfolding lt physicalLeast physicalClearance
+tooClose s p images = not (lt (physicalLeast (s .rings)) (physicalClearance p images))
+
+-- ---- "All three report the chosen point's rule 8 clearance in u and v"
+
+abbrev pub reported : Place → Float → ℕ → Numbers
+reported p clearance count = record { status = 0; x = p .x; y = p .y; z = p .z; clearance = clearance; count = count }
+
+unfoldable pub answeredAt : Place → Candidate → Numbers
+answeredAt p c = reported p (c .clearance) (c .count)
+
+-- 15, and the answer, where the chart has chosen
+unfoldable pub closing : Sheet → Place → List (List Place) → Float → ℕ → Numbers
+unfolding tooClose
+closing s p images clearance count = cond (tooClose s p images) (refused 15) (reported p clearance count)

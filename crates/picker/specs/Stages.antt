@@ -1,0 +1,22 @@
+-- What the private functions of the picker promise each other. A reader of the picks' definitions needs nothing of it.
+use mathlib.Core.Bool.{false}
+use mathlib.Core.List.{List, _++_}
+use mathlib.Core.Path.{_≡_}
+use Prim.Native.Nat.{ℕ}
+use lib.Ieee.{Float}
+use Rattle.sheet.specs.Layout.{sheetOf}
+use Rattle.sheet.specs.Checks.{first, layoutChecks, contentChecks}
+use Rattle.chart.specs.Chart.{phaseWrong}
+use Rattle.picker.specs.ImagePick.{imagesWrong}
+use Rattle.picker.specs.PlanePick.{noPlane}
+
+-- a sheet, a phase and images that pass the checks down to 10
+pub record ImagePassed (s : List ℕ) (phase : ℕ) (images : List Float) : Type 0 where
+  pub reads : first (layoutChecks s ++ contentChecks (sheetOf s)) ≡ 0
+  pub phaseRight : phaseWrong (sheetOf s) phase ≡ false
+  pub imagesRight : imagesWrong (sheetOf s) images ≡ false
+
+-- a sheet that passes plane pick's checks down to 8
+pub record PlanePassed (s : List ℕ) : Type 0 where
+  pub reads : first (layoutChecks s ++ contentChecks (sheetOf s)) ≡ 0
+  pub plane : noPlane (sheetOf s) ≡ false

@@ -1,0 +1,81 @@
+// 15: the physical clearance, held against the greatest deviation.
+use crate::space::Place;
+use crate::space::nearer;
+use leaves::constants::PHYSICAL_LIMIT;
+ghost use mathlib.Core.Path.{_≡_};
+ghost use mathlib.Core.List.{foldl};
+ghost use Prim.Native.Nat.{_*_, _≤_};
+ghost use lib.ListN.{length};
+ghost use lib.Ieee.{inf};
+ghost use mathlib.Core.Bool.{false};
+ghost use Rattle.sheet.specs.Checks.{first, layoutChecks};
+ghost use Rattle.sheet.specs.Layout.{ring, sheetOf};
+ghost use Rattle.rings.specs.Clearance.{leastOf};
+ghost use Rattle.chart.specs.Chart.{pointCount};
+ghost use Rattle.picker.specs.Images.{ringImages};
+ghost use Rattle.picker.specs.Physical.{deviates, greatestDeviation, tooClose};
+ghost use Rattle.picker.specs.Space.{segmentKey};
+
+// The larger of `most` and the deviations of the coedges of a ring, whose block is a part of the sheet.
+fn larger_deviation(most: f64, block: &[u8]) -> f64
+    ensures { λ r. ⌜ r ≡ deviates most (ring (now (block .entry))) ⌝ }
+{
+    let count = sheet::byte_at(block, 0) as usize;
+    let mut found = most;
+    let mut k = 0;
+    while k < count {
+        found = leaves::larger_of(
+            found,
+            sheet::number(block, sheet::BLOCK_HEAD + sheet::COEDGE_SIZE * k),
+        );
+        k += 1;
+    }
+    found
+}
+
+// The greatest deviation of all rings.
+fn greatest_deviation(s: &[u8]) -> f64
+    requires { ⌜ first (layoutChecks (now s)) ≡ 0 ⌝ }
+    ensures { λ r. ⌜ r ≡ greatestDeviation (sheetOf (now (s .entry)) .rings) ⌝ }
+{
+    let mut at = sheet::head_size(sheet::byte_at(s, 5));
+    let count = sheet::byte_at(s, 7);
+    let mut found = 0.0;
+    let mut k: u8 = 0;
+    while k < count {
+        let end = at + sheet::block_size(s, at);
+        found = larger_deviation(found, &s[at..end]);
+        at = end;
+        k += 1;
+    }
+    found
+}
+
+// The least key of the distances from p to the segments of all rings' images.
+fn nearest_key(s: &[u8], p: Place, images: &[f64]) -> f64
+    requires { ⌜ (first (layoutChecks (now s)) ≡ 0) × (3 * pointCount (sheetOf (now s)) ≤ length (now images)) ⌝ }
+    ensures { λ r. ⌜ r ≡ foldl (leastOf (segmentKey p)) (inf false) (ringImages (sheetOf (now (s .entry)) .rings) (now (images .entry))) ⌝ }
+{
+    let mut at = sheet::head_size(sheet::byte_at(s, 5));
+    let count = sheet::byte_at(s, 7);
+    let mut key = 1.0 / 0.0;
+    let mut from = 0usize;
+    let mut k: u8 = 0;
+    while k < count {
+        let to = from + 3 * (sheet::COEDGE_POINTS * (sheet::byte_at(s, at) as usize));
+        key = nearer(p, key, &images[from..to]);
+        from = to;
+        at += sheet::block_size(s, at);
+        k += 1;
+    }
+    key
+}
+
+// 15: whether the physical clearance of p is not above larger-of(8 x greatest deviation, 1e-7).
+pub(crate) fn too_close(s: &[u8], p: Place, images: &[f64]) -> bool
+    requires { ⌜ (first (layoutChecks (now s)) ≡ 0) × (3 * pointCount (sheetOf (now s)) ≤ length (now images)) ⌝ }
+    ensures { λ r. ⌜ r ≡ tooClose (sheetOf (now (s .entry))) p (ringImages (sheetOf (now (s .entry)) .rings) (now (images .entry))) ⌝ }
+{
+    let least = leaves::larger_of(greatest_deviation(s) * 8.0, PHYSICAL_LIMIT);
+    !(least < leaves::hypot_of_key(nearest_key(s, p, images)))
+}
