@@ -149,10 +149,17 @@ fn replaced(text: &str, from: &str, to: &str, hits: usize) -> String {
     text.replace(from, to)
 }
 
+/// The exported calls on a sheet.
+const CALLS: [&str; 3] = [
+    "facepoint_chart",
+    "facepoint_image_pick",
+    "facepoint_plane_pick",
+];
+
 /// Links the proved calls where their archive stands; all else builds without.
 fn find_archive(manifest: &Path) {
     println!("cargo:rustc-check-cfg=cfg(facepoint_archive)");
-    println!("cargo:rustc-check-cfg=cfg(facepoint_chart)");
+    println!("cargo:rustc-check-cfg=cfg(facepoint_calls)");
     println!("cargo:rerun-if-env-changed=FACEPOINT_ARCHIVE");
     let archive = env::var_os("FACEPOINT_ARCHIVE").map_or_else(
         || manifest.join("../../target/staticlib/libcapi.a"),
@@ -168,18 +175,23 @@ fn find_archive(manifest: &Path) {
     let name = archive.file_stem().and_then(|stem| stem.to_str());
     let name = name.and_then(|stem| stem.strip_prefix("lib"));
     println!("cargo:rustc-cfg=facepoint_archive");
-    if has_name(&archive, b"facepoint_chart") {
-        println!("cargo:rustc-cfg=facepoint_chart");
+    if has_names(&archive, &CALLS) {
+        println!("cargo:rustc-cfg=facepoint_calls");
     }
     println!("cargo:rustc-link-search=native={}", folder.display());
     println!("cargo:rustc-link-lib=static={}", name.expect("libNAME.a"));
 }
 
-/// Whether the archive names the function; a name that is missing would stop the
-/// linking of every test.
-fn has_name(archive: &Path, name: &[u8]) -> bool {
+/// Whether the archive has all these functions; one that is missing would stop
+/// the linking of every test.
+fn has_names(archive: &Path, names: &[&str]) -> bool {
     let bytes = fs::read(archive).expect("the archive is a file");
-    bytes.windows(name.len()).any(|part| part == name)
+    let has = |name: &str| {
+        bytes
+            .windows(name.len())
+            .any(|part| part == name.as_bytes())
+    };
+    names.iter().all(|name| has(name))
 }
 
 fn read(path: &Path) -> String {

@@ -3,8 +3,9 @@
 //!
 //! Every sentence, bullet, rule and table row of the papers has a row that
 //! quotes it, word for word and in order. A row has three cells: the quote; the
-//! names that meet it, or `not yet`, or `context`; and their files, or `-`. With
-//! one file all names stand in it, else the i-th name in the i-th file.
+//! names that meet it, or `not yet`, or `context`, or `due with` what it comes
+//! with; and their files, or `-`. With one file all names stand in it, else the
+//! i-th name in the i-th file.
 
 use std::ffi::OsStr;
 use std::fmt;
@@ -23,12 +24,14 @@ const CLAIMS: &str = "docs/CLAIMS.md";
 const PAPERS: [&str; 2] = ["docs/papers/demands.md", "docs/papers/01-scope.md"];
 const NOT_YET: &str = "not yet";
 const CONTEXT: &str = "context";
+const DUE: &str = "due with ";
 
 /// What the check found. Shown, it is what the program prints.
 pub struct Report {
     pub errors: Vec<String>,
     pub rows: usize,
     pub not_yet: usize,
+    pub due: usize,
 }
 
 impl fmt::Display for Report {
@@ -36,8 +39,13 @@ impl fmt::Display for Report {
         for error in &self.errors {
             writeln!(f, "claims: {error}")?;
         }
-        let Report { rows, not_yet, .. } = self;
-        writeln!(f, "claims: {rows} rows, {not_yet} not yet met")?;
+        let Report {
+            rows, not_yet, due, ..
+        } = self;
+        writeln!(
+            f,
+            "claims: {rows} rows, {not_yet} not yet met, {due} due later"
+        )?;
         let failed = !self.errors.is_empty();
         writeln!(f, "claims: {}", if failed { "FAILED" } else { "ok" })
     }
@@ -54,11 +62,15 @@ pub fn check(root: &Path) -> Result<Report, String> {
     }
     let quotes: Vec<&str> = claims.iter().filter_map(Row::quote).collect();
     errors.extend(quote_errors(&quotes, &papers(root)?));
-    let open = |row: &&Row| row.cells.get(1).is_some_and(|met| met == NOT_YET);
+    let count = |state: fn(&str) -> bool| {
+        let met = claims.iter().filter_map(|row| row.cells.get(1));
+        met.filter(|met| state(met)).count()
+    };
     Ok(Report {
         errors,
         rows: claims.len(),
-        not_yet: claims.iter().filter(open).count(),
+        not_yet: count(|met| met == NOT_YET),
+        due: count(|met| met.starts_with(DUE)),
     })
 }
 
@@ -90,7 +102,7 @@ fn row_errors(root: &Path, cells: &[String]) -> Result<Vec<String>, String> {
     let [_, met, files] = cells else {
         return Ok(vec![format!("{} cells, not three", cells.len())]);
     };
-    if met == NOT_YET || met == CONTEXT {
+    if met == NOT_YET || met == CONTEXT || met.starts_with(DUE) {
         let error = (files != "-").then(|| format!("'{met}' wants '-' for a file"));
         return Ok(error.into_iter().collect());
     }

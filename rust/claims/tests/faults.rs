@@ -25,7 +25,7 @@ const FILES: [(&str, &str); 8] = [
 | We like roots. | context | - |
 | Licence: Apache. | `Apache`, `2.0` | `NOTICE` |
 | Roots cut; | `root_cut` | `crates/leaves/must-fail/root_cut.edit` |
-| roots lost. | not yet | - |
+| roots lost. | due with S-2 | - |
 ",
     ),
     (
@@ -106,7 +106,10 @@ fn the_page_of_this_repository_has_no_fault() {
 #[test]
 fn no_fault() {
     let report = Repository::new("no_fault").report().to_string();
-    assert_eq!(report, "claims: 7 rows, 2 not yet met\nclaims: ok\n");
+    assert_eq!(
+        report,
+        "claims: 7 rows, 1 not yet met, 1 due later\nclaims: ok\n"
+    );
 }
 
 #[test]
@@ -115,7 +118,7 @@ fn a_fault_is_printed() {
     repository.write("NOTICE", "Apache");
     let expected = "\
 claims: docs/CLAIMS.md:7: 2.0 does not stand in NOTICE
-claims: 7 rows, 2 not yet met
+claims: 7 rows, 1 not yet met, 1 due later
 claims: FAILED
 ";
     assert_eq!(repository.report().to_string(), expected);
@@ -162,9 +165,11 @@ fn wrong_cell_count() {
 }
 
 #[test]
-fn a_file_beside_not_yet_or_context() {
-    let (old, new) = ("lost. | not yet | - |", "lost. | not yet | `NOTICE` |");
-    row_error("not_yet", old, new, 9, "'not yet' wants '-' for a file");
+fn a_file_beside_what_names_none() {
+    let (old, new) = ("root\\| | not yet | - |", "root\\| | not yet | `NOTICE` |");
+    row_error("not_yet", old, new, 5, "'not yet' wants '-' for a file");
+    let (old, new) = ("due with S-2 | - |", "due with S-2 | `NOTICE` |");
+    row_error("due", old, new, 9, "'due with S-2' wants '-' for a file");
     let (old, new) = ("| context | - |", "| context | `NOTICE` |");
     row_error("context", old, new, 6, "'context' wants '-' for a file");
 }

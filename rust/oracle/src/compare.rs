@@ -79,7 +79,8 @@ pub(crate) fn compare_chart(
     expect(unwritten(tail), || "tail written".into())
 }
 
-fn compare_pick(call: &str, pick: &Answer, run: &Run) -> Result<(), String> {
+/// A pick against the run's point, clearance and count.
+pub(crate) fn compare_pick(call: &str, pick: &Answer, run: &Run) -> Result<(), String> {
     let Answer::Point {
         x,
         y,

@@ -4,11 +4,12 @@
 mod calls;
 mod damage;
 mod families;
+mod images;
 mod shapes;
 mod thresholds;
 
-pub use calls::{chart_calls, damaged_calls, reordered, ChartCall};
-pub use damage::{damaged, Call, Damaged};
+pub use calls::{calls, damaged_calls, reordered, Trial};
+pub(crate) use images::on_flat_plane;
 pub use shapes::largest;
 
 use crate::rng::Rng;
@@ -79,7 +80,7 @@ impl Case {
         }
         Case {
             family: "",
-            surface: surface(rng, &sheet),
+            surface: surface_of(rng, sheet.kind, sheet.plane),
             sheet,
             phase: 0,
         }
@@ -99,11 +100,11 @@ fn plane(rng: &mut Rng) -> Plane {
     }
 }
 
-/// A surface of the sheet's kind.
-fn surface(rng: &mut Rng, sheet: &Sheet) -> Surface {
+/// A surface of the kind.
+fn surface_of(rng: &mut Rng, kind: u8, plane: Plane) -> Surface {
     let radius = rng.between(0.5, 20.0);
-    match sheet.kind {
-        PLANE => Surface::Plane(sheet.plane),
+    match kind {
+        PLANE => Surface::Plane(plane),
         CYLINDER => Surface::Cylinder { radius },
         CONE => Surface::Cone {
             radius,

@@ -6,8 +6,9 @@ extern crate self as cadmpeg_ir;
 extern crate self as serde_json;
 
 mod big_endian;
-pub mod chart_call;
+pub mod call;
 pub mod compare;
+pub mod convention;
 pub mod generate;
 pub mod model;
 pub mod original;
@@ -15,6 +16,7 @@ pub mod plates;
 pub mod recorder;
 pub mod replay;
 pub mod rng;
+pub mod samples;
 pub mod sheet;
 mod shims;
 mod stand_in;

@@ -12,7 +12,10 @@ mod reader;
 pub use fault::Fault;
 
 use chart::Chart;
-use reader::Layout;
+use reader::{Layout, Plane};
+
+/// The greatest magnitude of an image's coordinate, 2^30.
+const FARTHEST_IMAGE: f64 = 1_073_741_824.0;
 
 /// The outcome of a call: a point, or the number of a refusal.
 #[derive(Clone, Copy, Debug)]
@@ -99,7 +102,7 @@ impl Model {
     fn image_picked(&self, sheet: &[u8], phase: u32, images: &[f64]) -> Result<Answer, u32> {
         let layout = self.read(sheet)?;
         check_phase(&layout, phase)?;
-        check_images(&layout, images)?;
+        self.check_images(&layout, images)?;
         let chart = self.prepare_and_search(layout, phase)?;
         let images: Vec<[f64; 3]> = images.chunks_exact(3).map(|p| [p[0], p[1], p[2]]).collect();
         self.answer_in_space(&chart, &images)
@@ -112,9 +115,7 @@ impl Model {
 
     fn plane_picked(&self, sheet: &[u8]) -> Result<Answer, u32> {
         let layout = self.read(sheet)?;
-        let Some(plane) = layout.plane else {
-            return Err(8);
-        };
+        let plane = self.plane_of(&layout).ok_or(8u32)?;
         let chart = self.prepare_and_search(layout, 0)?;
         let images: Vec<[f64; 3]> = self
             .written(&chart)
@@ -123,23 +124,48 @@ impl Model {
             .collect();
         self.answer_in_space(&chart, &images)
     }
+
+    /// Check 8 of plane pick: kind 0 alone has a plane.
+    fn plane_of(&self, layout: &Layout) -> Option<Plane> {
+        if layout.kind == 6 && self.is(Fault::PlanePickOnOther) {
+            return Some(Plane::FLAT);
+        }
+        layout.plane
+    }
+
+    /// Check 10: not 3 × (points + 1) long, or an entry not finite or above 2^30
+    /// in magnitude.
+    fn check_images(&self, layout: &Layout, images: &[f64]) -> Result<(), u32> {
+        let points = layout.point_count();
+        let length = match self.fault {
+            Fault::ImageListOfPointsAlone => 3 * points,
+            Fault::ImageListMayBeLonger => images.len().max(3 * (points + 1)),
+            _ => 3 * (points + 1),
+        };
+        let checked = match self.fault {
+            Fault::LastImageUnchecked => &images[..images.len().min(3 * points)],
+            _ => images,
+        };
+        if images.len() != length || !checked.iter().all(|x| self.image_passes(*x)) {
+            return Err(10);
+        }
+        Ok(())
+    }
+
+    fn image_passes(&self, x: f64) -> bool {
+        let far = match self.fault {
+            Fault::ImageAtLimitRefused => x.abs() >= FARTHEST_IMAGE,
+            Fault::NegativeImageUnbounded => x > FARTHEST_IMAGE,
+            _ => x.abs() > FARTHEST_IMAGE,
+        };
+        x.is_finite() && !far
+    }
 }
 
 /// Check 8 of chart and image pick: phase not 0 or 1; 1 off a torus.
 fn check_phase(layout: &Layout, phase: u32) -> Result<(), u32> {
     if phase > 1 || (phase == 1 && layout.kind != 4) {
         return Err(8);
-    }
-    Ok(())
-}
-
-/// Check 10: not 3 × (points + 1) long, or an entry not finite or above 2^30
-/// in magnitude.
-fn check_images(layout: &Layout, images: &[f64]) -> Result<(), u32> {
-    let length = 3 * (layout.point_count() + 1);
-    let passes = |x: &f64| x.is_finite() && x.abs() <= 1_073_741_824.0;
-    if images.len() != length || !images.iter().all(passes) {
-        return Err(10);
     }
     Ok(())
 }

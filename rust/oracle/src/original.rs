@@ -7,7 +7,7 @@ use crate::copies;
 use crate::recorder::{self, Record};
 use crate::sheet::{Plane, Sheet, Uv, FORWARD, PLANE, REVERSED, SAMPLES};
 use crate::shims::json::Value;
-use crate::shims::scene::{self, Sample, Scene};
+use crate::shims::scene::{self, Evaluation, Sample, Scene};
 use crate::shims::Context;
 use crate::surface::Surface;
 
@@ -56,15 +56,28 @@ pub struct Run {
 impl Copy {
     /// `pick` of uv.rs at document 01's phase, 0 or 1.
     pub fn pick(&self, sheet: &Sheet, phase: u32, surface: Surface) -> Run {
+        self.pick_evaluated(sheet, phase, evaluated_on(sheet, surface))
+    }
+
+    /// The same with the images of the chart's written points and of its answer,
+    /// the answer's last, in place of a surface. `pick` asks for that one first.
+    pub fn pick_with_images(&self, sheet: &Sheet, phase: u32, images: &[f64]) -> Run {
+        let mut points: Vec<[f64; 3]> =
+            images.chunks_exact(3).map(|p| [p[0], p[1], p[2]]).collect();
+        points.rotate_right(1);
+        self.pick_evaluated(sheet, phase, Evaluation::InOrder(points))
+    }
+
+    fn pick_evaluated(&self, sheet: &Sheet, phase: u32, evaluation: Evaluation) -> Run {
         let phase = if phase == 0 { 0.0 } else { PI };
-        self.run(sheet, surface, |rows| {
+        self.run(sheet, evaluation, |rows| {
             (self.pick)(&rows.context, &rows.face, &rows.geometry, phase)
         })
     }
 
     /// `point` of uv.rs: `pick`, on a torus once more at the other phase.
     pub fn point(&self, sheet: &Sheet, surface: Surface) -> Run {
-        self.run(sheet, surface, |rows| {
+        self.run(sheet, evaluated_on(sheet, surface), |rows| {
             (self.point)(&rows.context, &rows.face, &rows.geometry)
         })
     }
@@ -72,15 +85,20 @@ impl Copy {
     /// `spherical_triangle` of uv.rs, which `pick` tries first on a sphere.
     pub fn spherical_triangle(&self, sheet: &Sheet, surface: Surface) -> Picked {
         let triangle = self.spherical_triangle;
-        let run = self.run(sheet, surface, |rows| {
+        let run = self.run(sheet, evaluated_on(sheet, surface), |rows| {
             triangle(&rows.context, &rows.face, &rows.geometry)
         });
         run.point
     }
 
-    fn run(&self, sheet: &Sheet, surface: Surface, call: impl FnOnce(&Rows) -> Picked) -> Run {
+    fn run(
+        &self,
+        sheet: &Sheet,
+        evaluation: Evaluation,
+        call: impl FnOnce(&Rows) -> Picked,
+    ) -> Run {
         let rows = rows(sheet);
-        scene::set(Scene::new(samples(sheet), evaluated_on(sheet, surface)));
+        scene::set(Scene::new(samples(sheet), evaluation));
         recorder::reset();
         let point = call(&rows);
         let scene = scene::take().expect("the scene set above");
@@ -102,15 +120,15 @@ fn read(x: f64) -> f64 {
 }
 
 /// A plane is evaluated by the stand-in on the sheet's own numbers.
-fn evaluated_on(sheet: &Sheet, surface: Surface) -> Surface {
+fn evaluated_on(sheet: &Sheet, surface: Surface) -> Evaluation {
     if sheet.kind != PLANE {
-        return surface;
+        return Evaluation::On(surface);
     }
-    Surface::Plane(Plane {
+    Evaluation::On(Surface::Plane(Plane {
         origin: sheet.plane.origin.map(read),
         u_axis: sheet.plane.u_axis.map(read),
         normal: sheet.plane.normal.map(read),
-    })
+    }))
 }
 
 fn samples(sheet: &Sheet) -> Vec<Sample> {

@@ -1,14 +1,17 @@
-//! Sheets that a person can check: the plates of document 01, its bad cuts, and
-//! each refusal of the chart beside the neighbour that passes. No number of
-//! theirs comes from a sine, so they are the same bytes on every machine.
+//! Calls that a person can check: the plates of document 01, its bad cuts, and
+//! each refusal beside the neighbour that passes. No number of theirs comes from
+//! a sine, so they are the same bytes on every machine.
 //!
-//! The file of plates is one record behind the other: the name in 32 bytes, with
-//! spaces behind it; the sheet's length, the phase and the output list's length
-//! (u32, big-endian); the sheet.
+//! The file of plates is one record behind the other, every number big-endian:
+//! the name in 32 bytes, with spaces behind it; the call (0 chart, 1 image pick,
+//! 2 plane pick), the sheet's length, the phase and the list's length (u32 each);
+//! the sheet; of image pick the images' bits.
+
+mod picks;
 
 use std::f64::consts::{PI, TAU};
 
-use crate::chart_call::{Given, Judge, Left};
+use crate::call::{Call, Given, Judge, Left};
 use crate::generate::largest;
 use crate::sheet::{
     set_length, Ring, Sheet, Uv, ABSENT, CYLINDER, FORWARD, OTHER, REVERSED, SPHERE, TORUS,
@@ -18,10 +21,10 @@ use crate::sheet::{
 const FARTHEST: f64 = 1_048_576.0;
 const NAME_BYTES: usize = 32;
 
-/// A call of the chart with a name, and the status that document 01 gives it.
+/// A call with a name, and the status that document 01 gives it.
 #[derive(Clone, Debug)]
 pub struct Plate {
-    pub name: &'static str,
+    pub name: String,
     pub status: u32,
     pub given: Given,
 }
@@ -128,6 +131,10 @@ const NOTCH: Uv = [0.49415, 0.491889667084515];
 
 /// Every plate, in the file's order.
 pub fn plates() -> Vec<Plate> {
+    [chart_plates(), picks::pick_plates()].concat()
+}
+
+fn chart_plates() -> Vec<Plate> {
     [
         papers(),
         header(),
@@ -147,17 +154,17 @@ pub fn plates() -> Vec<Plate> {
 }
 
 /// The sheet at phase 0 with a list of just the right length.
-fn plate(name: &'static str, status: u32, sheet: Sheet) -> Plate {
-    let given = Given::exact(&sheet, 0);
+fn plate(name: &str, status: u32, sheet: Sheet) -> Plate {
+    let given = Given::chart(&sheet, 0);
     Plate {
-        name,
+        name: name.into(),
         status,
         given,
     }
 }
 
 /// Plate A with its bytes changed; the length field is right for them.
-fn damaged(name: &'static str, status: u32, change: fn(&mut Vec<u8>)) -> Plate {
+fn damaged(name: &str, status: u32, change: fn(&mut Vec<u8>)) -> Plate {
     let mut plate = plate(name, status, plate_a());
     change(&mut plate.given.sheet);
     set_length(&mut plate.given.sheet);
@@ -165,7 +172,7 @@ fn damaged(name: &'static str, status: u32, change: fn(&mut Vec<u8>)) -> Plate {
 }
 
 /// Plate A, built anew by `change`.
-fn changed(name: &'static str, status: u32, change: impl FnOnce(&mut Sheet)) -> Plate {
+fn changed(name: &str, status: u32, change: impl FnOnce(&mut Sheet)) -> Plate {
     let mut sheet = plate_a();
     change(&mut sheet);
     plate(name, status, sheet)
@@ -178,7 +185,7 @@ impl Plate {
     }
 
     fn with_room(mut self, change: fn(usize) -> usize) -> Plate {
-        self.given.room = change(self.given.room);
+        self.given.set_places(change(self.given.list.len()));
         self
     }
 
@@ -423,16 +430,29 @@ fn tails() -> Vec<Plate> {
 
 // The file, and what a program that reads it prints.
 
+/// A call as the file has it.
+fn number_of(call: Call) -> u32 {
+    match call {
+        Call::Chart => 0,
+        Call::ImagePick => 1,
+        Call::PlanePick => 2,
+    }
+}
+
 /// The bytes of the file of plates.
 pub fn plates_file() -> Vec<u8> {
     let mut file = Vec::new();
     for plate in plates() {
         let given = &plate.given;
         file.extend(format!("{:NAME_BYTES$}", plate.name).bytes());
-        for number in [given.sheet.len(), given.phase as usize, given.room] {
+        file.extend(number_of(given.call).to_be_bytes());
+        for number in [given.sheet.len(), given.phase as usize, given.list.len()] {
             file.extend((number as u32).to_be_bytes());
         }
         file.extend(&given.sheet);
+        if given.call == Call::ImagePick {
+            file.extend(given.list.iter().flat_map(|bits| bits.to_be_bytes()));
+        }
     }
     file
 }
@@ -440,20 +460,22 @@ pub fn plates_file() -> Vec<u8> {
 impl Plate {
     /// What the model leaves behind, held against the original.
     pub fn judged(&self) -> Result<Left, String> {
-        self.given.judged(Judge::of_status(self.status))
+        self.given.judged(&Judge::of(&self.given, self.status))
     }
 
     /// The plate's line: its name, the status, the five numbers of an answer, and
-    /// a number that every place of the output list goes into.
+    /// of the chart a number that every place of the output list goes into.
     pub fn line(&self, left: &Left) -> String {
-        let written = written_sum(&left.list);
-        if left.status != 0 {
-            return format!("{}: {} {written:016X}", self.name, left.status);
+        let mut line = format!("{}: {}", self.name, left.status);
+        if left.status == 0 {
+            let [x, y, z, clearance, count] = left.numbers;
+            let count = f64::from_bits(count);
+            line += &format!(" {x:016X} {y:016X} {z:016X} {clearance:016X} {count}");
         }
-        let [x, y, z, clearance, count] = left.numbers;
-        let count = f64::from_bits(count);
-        let name = self.name;
-        format!("{name}: 0 {x:016X} {y:016X} {z:016X} {clearance:016X} {count} {written:016X}")
+        if self.given.call == Call::Chart {
+            line += &format!(" {:016X}", written_sum(&left.list));
+        }
+        line
     }
 }
 

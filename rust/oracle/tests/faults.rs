@@ -1,4 +1,4 @@
-//! Every fault planted in the model is found by the comparison with the
+//! Every fault planted in a rule of the model is found by the comparison with the
 //! original, on the same generated sheets that the agreement runs over.
 
 use std::sync::atomic::{AtomicUsize, Ordering};
@@ -46,12 +46,12 @@ fn every_planted_fault_is_found() {
         .into_iter()
         .map(|worker| worker.join().expect("a worker ends"));
     let judged: Vec<(Case, Run)> = parts.flatten().collect();
-    assert!(Fault::ALL.len() >= 20);
+    assert!(Fault::RULES.len() >= 20);
 
     let next = AtomicUsize::new(0);
     let missed = AtomicUsize::new(0);
     let work = || {
-        while let Some(fault) = Fault::ALL.get(next.fetch_add(1, Ordering::Relaxed)) {
+        while let Some(fault) = Fault::RULES.get(next.fetch_add(1, Ordering::Relaxed)) {
             if let Some((sheets, difference)) = found(*fault, &judged) {
                 println!("{sheets:5} sheets: {fault:?} ({difference})");
             } else {
@@ -65,5 +65,5 @@ fn every_planted_fault_is_found() {
             scope.spawn(work);
         }
     });
-    assert_eq!(missed.into_inner(), 0, "of {} faults", Fault::ALL.len());
+    assert_eq!(missed.into_inner(), 0, "of {} faults", Fault::RULES.len());
 }

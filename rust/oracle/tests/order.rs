@@ -1,12 +1,13 @@
 //! The order of a sheet's rings changes no status, point, clearance or count.
 
-use oracle::generate::case;
-use oracle::model::{Answer, MODEL};
+use oracle::call::Given;
+use oracle::generate::{case, reordered, Case};
+use oracle::model::MODEL;
 use oracle::rng::Rng;
-use oracle::sheet::{Sheet, PLANE, SAMPLES};
+use oracle::sheet::{Sheet, PLANE};
 
 /// The images of the chart's written points on the case's surface, or zeros.
-fn images(case: &oracle::generate::Case) -> Vec<f64> {
+fn images(case: &Case) -> Vec<f64> {
     let mut output = vec![0.0; 2 * case.sheet.point_count()];
     let chart = MODEL.chart(&case.sheet.bytes(), case.phase, &mut output);
     let (_, [u, v, ..]) = chart.numbers();
@@ -15,45 +16,21 @@ fn images(case: &oracle::generate::Case) -> Vec<f64> {
     output.chunks_exact(2).flat_map(image).collect()
 }
 
-/// The rings in another order, each with its images; the last image stays.
-fn reordered(rng: &mut Rng, sheet: &Sheet, images: &[f64]) -> (Sheet, Vec<f64>) {
-    let mut rest = images;
-    let mut blocks = Vec::new();
-    for ring in &sheet.rings {
-        let (ours, after) = rest.split_at(3 * SAMPLES * ring.0.len());
-        blocks.push((ring.clone(), ours));
-        rest = after;
-    }
-    rng.shuffle(&mut blocks);
-    let mut sheet = sheet.clone();
-    sheet.rings = blocks.iter().map(|(ring, _)| ring.clone()).collect();
-    let moved = blocks.iter().flat_map(|(_, images)| images.iter());
-    (sheet, moved.chain(rest).copied().collect())
-}
-
-fn answers(sheet: &Sheet, phase: u32, images: &[f64]) -> [Answer; 3] {
-    let bytes = sheet.bytes();
-    let mut output = vec![0.0; 2 * sheet.point_count()];
-    [
-        MODEL.chart(&bytes, phase, &mut output),
-        MODEL.image_pick(&bytes, phase, images),
-        MODEL.plane_pick(&bytes),
-    ]
-}
-
 fn same_in_any_order(seed: u64, change: fn(&mut Rng, &mut Sheet)) {
     let mut rng = Rng::new(seed);
     let mut case = case(seed);
     let images = images(&case);
     change(&mut rng, &mut case.sheet);
-    let (sheet, moved) = reordered(&mut rng, &case.sheet, &images);
-    let before = answers(&case.sheet, case.phase, &images);
-    let after = answers(&sheet, case.phase, &moved);
-    for (before, after) in before.iter().zip(&after) {
-        assert!(
-            before.same(after),
-            "seed {seed}: {before:?}, reordered {after:?}"
-        );
+    let calls = [
+        Given::chart(&case.sheet, case.phase),
+        Given::image_pick(&case.sheet, case.phase, &images),
+        Given::plane_pick(&case.sheet),
+    ];
+    for given in calls {
+        let before = given.left_by(MODEL);
+        let after = reordered(&mut rng, &given).left_by(MODEL);
+        let same = (before.status, before.numbers) == (after.status, after.numbers);
+        assert!(same, "seed {seed}: {before:?}, reordered {after:?}");
     }
 }
 

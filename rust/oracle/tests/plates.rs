@@ -6,6 +6,7 @@ use std::f64::consts::PI;
 use std::fs;
 use std::path::Path;
 
+use oracle::call::{Call, Given};
 use oracle::compare::{difference, original_run};
 use oracle::generate::Case;
 use oracle::model::{Answer, Fault, Model, MODEL};
@@ -49,10 +50,14 @@ fn chart_of(model: Model, sheet: &Sheet, phase: u32) -> Answer {
 }
 
 fn point(u: f64, v: f64, clearance: f64, count: u32) -> (u32, [u64; 5]) {
+    point_in_space([u, v, 0.0], clearance, count)
+}
+
+fn point_in_space([x, y, z]: [f64; 3], clearance: f64, count: u32) -> (u32, [u64; 5]) {
     let answer = Answer::Point {
-        x: u,
-        y: v,
-        z: 0.0,
+        x,
+        y,
+        z,
         clearance,
         count,
     };
@@ -240,7 +245,7 @@ fn the_programs_output_is_the_oracles() {
 #[test]
 fn names_are_short_and_told_apart() {
     let plates = plates();
-    let names: BTreeSet<&str> = plates.iter().map(|plate| plate.name).collect();
+    let names: BTreeSet<&str> = plates.iter().map(|plate| plate.name.as_str()).collect();
     assert_eq!(names.len(), plates.len());
     for name in names {
         assert!(name.len() <= 32 && name.trim() == name, "{name}");
@@ -249,20 +254,24 @@ fn names_are_short_and_told_apart() {
 }
 
 /// By hand from the table of refusals, by the model, and by the original where
-/// it can answer; each refusal of the chart is among them.
+/// it can answer; each refusal of each call is among them.
 #[test]
 fn every_plate_has_its_status() {
-    let mut seen = BTreeSet::new();
+    let mut seen = Vec::new();
     for plate in plates() {
         let left = plate
             .judged()
             .unwrap_or_else(|e| panic!("{}: {e}", plate.name));
         assert_eq!(left.status, plate.status, "{}", plate.name);
-        assert!(plate.given.sheet.len() <= 40_000 && plate.given.room <= 4_400);
-        seen.insert(left.status);
+        assert!(plate.given.sheet.len() <= 40_000 && plate.given.list.len() <= 6_600);
+        seen.push((plate.given.call, left.status));
     }
-    let chart: BTreeSet<u32> = (0..=9).chain(11..=14).collect();
-    assert_eq!(seen, chart);
+    for call in Call::ALL {
+        let of_call = seen.iter().filter(|(of, _)| *of == call);
+        let statuses: BTreeSet<u32> = of_call.map(|(_, status)| *status).collect();
+        let all: BTreeSet<u32> = [0].iter().chain(call.refusals()).copied().collect();
+        assert_eq!(statuses, all, "{call}");
+    }
 }
 
 /// What document 01 and its bad cuts print, and what follows by hand.
@@ -289,6 +298,23 @@ fn plates_have_the_numbers_of_the_papers() {
         ("inner band, phase 0", refused(11)),
         ("inner band, phase 1", inner),
         ("inner band, tail of 3", inner),
+        ("image: plate A", middle),
+        ("plane: plate A", middle),
+        ("image: plate B", b),
+        ("plane: plate B", b),
+        ("image: plate B, rings swapped", b),
+        ("plane: plate B, rings swapped", b),
+        ("image: plate C", refused(14)),
+        ("plane: plate C", refused(14)),
+        (
+            "image: last with -0",
+            point_in_space([0.5, 0.5, -0.0], 0.5, 961),
+        ),
+        (
+            // (1, -2, 3) + 0.5 × (1.5, -0.5, 0.25) + 0.5 × (-0.0625, -1.1875, -2)
+            "plane: plate A on a skew plane",
+            point_in_space([1.71875, -2.84375, 2.125], 0.5, 961),
+        ),
     ];
     for (name, expected) in rows {
         let left = named(name).judged().expect("model and original agree");
@@ -315,9 +341,120 @@ fn plates_write_their_points() {
 /// The sizes that document 01 names.
 #[test]
 fn the_largest_sheet_is_the_documents() {
-    assert_eq!(named("largest sheet").given.sheet.len(), 35_936);
+    for name in [
+        "largest sheet",
+        "image: largest sheet",
+        "plane: largest sheet",
+    ] {
+        assert_eq!(named(name).given.sheet.len(), 35_936);
+    }
+    assert_eq!(named("image: largest sheet").given.list.len(), 3 * 2177);
     let more = named("largest sheet, a coedge more");
     assert_eq!(more.given.sheet.len(), 35_936 + 280);
+}
+
+/// Rings in the other order take their images with them.
+#[test]
+fn swapped_plates_have_their_images_swapped() {
+    let pairs = [
+        ("image: plate B", "image: plate B, rings swapped"),
+        ("image: one-coedge hole", "image: one-coedge hole, swapped"),
+        ("image: 8 deviations away", "image: at the limit, swapped"),
+    ];
+    for (first, second) in pairs {
+        let (first, second) = (named(first).given, named(second).given);
+        assert_ne!(first, second);
+        assert_eq!(first.reordered(&[1, 0]), Some(second));
+    }
+}
+
+/// Each refusal that a pick adds or makes for itself, beside a neighbour that
+/// passes. A chart as narrow as check 12 asks is too near in space on any plane.
+#[test]
+fn picks_refuse_beside_neighbours_that_pass() {
+    let rows = [
+        (8, "image: phase 1 on a plane", "image: phase 1 on a torus"),
+        (8, "plane: kind 1", "plane: plate A"),
+        (10, "image: list one short", "image: plate A"),
+        (10, "image: list one long", "image: plate A"),
+        (10, "image: last above 2^30", "image: last of 2^30"),
+        (10, "image: first below -2^30", "image: first of -2^30"),
+        (11, "image: torus band of 3.2", "image: torus band of 3.1"),
+        (12, "image: u scale 1e-12", "image: u scale above 1e-12"),
+        (13, "image: join above 1e-4", "image: join of 1e-4"),
+        (13, "plane: join above 1e-4", "plane: join of 1e-4"),
+        (14, "image: clearance 0.01", "image: clearance above 0.01"),
+        (14, "plane: clearance 0.01", "plane: clearance above 0.01"),
+        (15, "image: 1e-7 away", "image: above 1e-7 away"),
+        (15, "plane: 1e-7 away", "plane: above 1e-7 away"),
+        (
+            15,
+            "image: 8 deviations away",
+            "image: above 8 deviations away",
+        ),
+        (
+            15,
+            "plane: 8 deviations away",
+            "plane: above 8 deviations away",
+        ),
+        (
+            15,
+            "image: at the limit, swapped",
+            "image: above the limit, swapped",
+        ),
+    ];
+    for (number, refused, passes) in rows {
+        let [refused, passes] = [refused, passes].map(|name| named(name).judged());
+        assert_eq!(refused.expect("agreed").status, number);
+        assert_eq!(passes.expect("agreed").status, 0, "beside {number}");
+    }
+}
+
+/// A list refused by 10 stands before what the sheet would be refused by.
+#[test]
+fn wrong_images_are_refused_before_the_chart() {
+    let rows = [
+        ("image: wide band, NaN", 11),
+        ("image: u scale 1e-12, NaN", 12),
+        ("image: open join, NaN", 13),
+        ("image: plate C, NaN", 14),
+        ("image: 1e-7 away, NaN", 15),
+    ];
+    for (name, status) in rows {
+        let plate = named(name);
+        assert_eq!(plate.status, 10, "{name}");
+        let mut list = plate.given.list.clone();
+        assert!(f64::from_bits(list[0]).is_nan());
+        list[0] = (-1024.0f64).to_bits();
+        let given = Given {
+            list,
+            ..plate.given
+        };
+        assert_eq!(given.left_by(MODEL).status, status, "{name}");
+    }
+}
+
+/// The program's lines would show each of these faults.
+#[test]
+fn faults_of_the_picks_show_in_the_plates() {
+    let in_picks = [
+        Fault::PhysicalClearanceReported,
+        Fault::DeviationOfFirstRing,
+        Fault::DeviationFourTimes,
+        Fault::PhysicalClearanceAtLimitPasses,
+        Fault::AnswerIsFirstImage,
+        Fault::PlaneCrossReversed,
+    ];
+    let plates = plates();
+    let picks: Vec<&Plate> = plates
+        .iter()
+        .filter(|plate| plate.given.call != Call::Chart)
+        .collect();
+    for fault in in_picks.iter().chain(Fault::LISTS) {
+        let model = Model::with(*fault);
+        let shows = |plate: &&Plate| plate.given.left_by(model) != plate.given.left_by(MODEL);
+        assert!(picks.iter().any(shows), "{fault:?}");
+    }
 }
 
 #[test]
@@ -344,4 +481,16 @@ fn lines_show_the_answer_and_the_list() {
     // The first 272 odd numbers, which make 272 squared, times what was there.
     let kept = (272 * 272 * 0x40C8_1C80_0000_0000u128) % (1 << 64);
     assert_eq!(line("plate C"), format!("plate C: 14 {kept:016X}"));
+    // A pick has no list to show.
+    let zero = "0000000000000000";
+    for pick in ["image", "plane"] {
+        assert_eq!(
+            line(&format!("{pick}: plate A")),
+            format!("{pick}: plate A: 0 {half} {half} {zero} {half} 961")
+        );
+        assert_eq!(
+            line(&format!("{pick}: plate C")),
+            format!("{pick}: plate C: 14")
+        );
+    }
 }

@@ -1,16 +1,10 @@
 //! Damaged copies of a call, for every way to be refused by 1 to 10. The
 //! original is not run on them: its host gives it nothing of the kind.
 
-use crate::model::{Answer, Model};
+use crate::call::{bits, Call, Given};
+use crate::compare::UNWRITTEN;
 use crate::rng::Rng;
 use crate::sheet::{set_length, Sheet, PLANE, TORUS};
-
-#[derive(Clone, Copy, Debug, PartialEq, Eq)]
-pub enum Call {
-    Chart,
-    ImagePick,
-    PlanePick,
-}
 
 /// A call that must be refused, and by which number.
 #[derive(Clone, Debug)]
@@ -21,16 +15,23 @@ pub struct Damaged {
     pub sheet: Vec<u8>,
     pub phase: u32,
     /// What the chart is lent.
-    pub output: Vec<f64>,
-    pub images: Vec<f64>,
+    output: Vec<f64>,
+    images: Vec<f64>,
 }
 
 impl Damaged {
-    pub fn answer(&mut self, model: Model) -> Answer {
-        match self.call {
-            Call::Chart => model.chart(&self.sheet, self.phase, &mut self.output),
-            Call::ImagePick => model.image_pick(&self.sheet, self.phase, &self.images),
-            Call::PlanePick => model.plane_pick(&self.sheet),
+    /// The call as a caller sees it.
+    pub fn given(self) -> Given {
+        let (phase, list) = match self.call {
+            Call::Chart => (self.phase, self.output),
+            Call::ImagePick => (self.phase, self.images),
+            Call::PlanePick => (0, Vec::new()),
+        };
+        Given {
+            call: self.call,
+            sheet: self.sheet,
+            phase,
+            list: bits(&list),
         }
     }
 }
@@ -66,14 +67,14 @@ impl Whole {
             call,
             sheet: self.bytes.clone(),
             phase: 0,
-            output: vec![7.0; 2 * points],
+            output: vec![UNWRITTEN; 2 * points],
             images: vec![0.0; 3 * (points + 1)],
         }
     }
 
     /// All three calls read the sheet first, whatever their phase.
     fn all(&self, what: &'static str, number: u32, sheet: &[u8], list: &mut Vec<Damaged>) {
-        for call in [Call::Chart, Call::ImagePick, Call::PlanePick] {
+        for call in Call::ALL {
             list.push(Damaged {
                 sheet: sheet.to_vec(),
                 phase: 2,

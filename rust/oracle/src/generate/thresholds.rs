@@ -11,7 +11,7 @@ use crate::sheet::{
 use crate::surface::Surface;
 
 /// The number itself, its two neighbours and two farther off.
-fn beside(rng: &mut Rng, x: f64) -> f64 {
+pub fn beside(rng: &mut Rng, x: f64) -> f64 {
     rng.pick(&[x, x, x.next_up(), x.next_down(), x * 1.01, x * 0.99])
 }
 

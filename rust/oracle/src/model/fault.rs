@@ -1,23 +1,28 @@
-//! The faults that tests plant in the model, to see that the comparison with
-//! the original finds each.
+//! The faults that tests plant in the model, to see that the comparisons find
+//! each.
 
 macro_rules! faults {
-    ($($(#[$meaning:meta])* $name:ident,)*) => {
+    (rules { $($rule:ident,)* } lists { $($list:ident,)* }) => {
         #[derive(Clone, Copy, Debug, PartialEq, Eq)]
         pub enum Fault {
             /// Document 01 as it stands.
             None,
-            $($(#[$meaning])* $name,)*
+            $($rule,)*
+            $($list,)*
         }
 
         impl Fault {
-            /// Every fault but `None`.
-            pub const ALL: &'static [Fault] = &[$(Fault::$name,)*];
+            /// Faults in a rule, which the cases show beside the original.
+            pub const RULES: &'static [Fault] = &[$(Fault::$rule,)*];
+            /// Faults in what a pick takes, which show on image lists made for
+            /// them or on kinds that are refused.
+            pub const LISTS: &'static [Fault] = &[$(Fault::$list,)*];
         }
     };
 }
 
 faults! {
+rules {
     // Sheet.
     NegativeZeroKept,
     // Leaves.
@@ -77,4 +82,21 @@ faults! {
     DeviationOfFirstRing,
     DeviationFourTimes,
     PhysicalClearanceAtLimitPasses,
+    AnswerIsFirstImage,
+}
+lists {
+    // Check 8.
+    PlanePickOnOther,
+    // Check 10.
+    ImageListOfPointsAlone,
+    ImageListMayBeLonger,
+    ImageAtLimitRefused,
+    NegativeImageUnbounded,
+    LastImageUnchecked,
+    // Point.
+    ImagesOfRingsReversed,
+    RingsJoinedInSpace,
+    LastSegmentInSpaceOmitted,
+    AnswerWithoutNegativeZero,
+}
 }

@@ -35,22 +35,23 @@ impl Model {
         chart: &Chart,
         images: &[Position],
     ) -> Result<Answer, u32> {
-        let (point, boundary) = images.split_last().ok_or(15u32)?;
-        let mut physical = f64::INFINITY;
-        let mut rest = boundary;
-        for ring in &chart.moved {
-            let (images, after) = rest.split_at(ring.len());
-            for (a, b) in segments(images) {
-                physical = smaller_of(physical, self.distance_in_space(a, b, *point));
-            }
-            rest = after;
-        }
+        let (point, boundary) = if self.is(Fault::AnswerIsFirstImage) {
+            images.split_first().ok_or(15u32)?
+        } else {
+            images.split_last().ok_or(15u32)?
+        };
+        let lengths: Vec<usize> = chart.moved.iter().map(Vec::len).collect();
+        let physical = self.physical_clearance(&lengths, boundary, *point);
         let limit = self.limit(&chart.layout.rings);
         let at_limit = physical == limit && self.is(Fault::PhysicalClearanceAtLimitPasses);
         if !(physical > limit || at_limit) {
             return Err(15);
         }
-        let [x, y, z] = *point;
+        let [x, y, z] = if self.is(Fault::AnswerWithoutNegativeZero) {
+            point.map(|x| x + 0.0)
+        } else {
+            *point
+        };
         let clearance = if self.is(Fault::PhysicalClearanceReported) {
             physical
         } else {
@@ -63,6 +64,27 @@ impl Model {
             clearance,
             count: chart.candidate.count,
         })
+    }
+
+    /// Rule 8 in space, over all rings: `lengths` are their points.
+    fn physical_clearance(&self, lengths: &[usize], images: &[Position], point: Position) -> f64 {
+        let lengths: Vec<usize> = match self.fault {
+            Fault::ImagesOfRingsReversed => lengths.iter().rev().copied().collect(),
+            Fault::RingsJoinedInSpace => vec![lengths.iter().sum()],
+            _ => lengths.to_vec(),
+        };
+        let left_out = usize::from(self.is(Fault::LastSegmentInSpaceOmitted));
+        let mut least = f64::INFINITY;
+        let mut rest = images;
+        for length in lengths {
+            // A planted fault may have taken a list that is too short.
+            let (ring, after) = rest.split_at(length.min(rest.len()));
+            for (a, b) in segments(ring).take(length - left_out) {
+                least = smaller_of(least, self.distance_in_space(a, b, point));
+            }
+            rest = after;
+        }
+        least
     }
 
     fn limit(&self, rings: &[Ring]) -> f64 {
@@ -81,7 +103,7 @@ impl Model {
         larger_of(times * greatest, 1e-7)
     }
 
-    /// Rule 8 in space, with three-term hypot.
+    /// With three-term hypot.
     fn distance_in_space(&self, a: Position, b: Position, p: Position) -> f64 {
         let d = [b[0] - a[0], b[1] - a[1], b[2] - a[2]];
         let from_a = [p[0] - a[0], p[1] - a[1], p[2] - a[2]];

@@ -17,6 +17,15 @@ pub struct Plane {
     pub normal: [f64; 3],
 }
 
+impl Plane {
+    /// What a planted fault takes where a sheet has none.
+    pub const FLAT: Plane = Plane {
+        origin: [0.0, 0.0, 0.0],
+        u_axis: [1.0, 0.0, 0.0],
+        normal: [0.0, 0.0, 1.0],
+    };
+}
+
 pub struct Coedge {
     pub deviation: f64,
     pub points: Vec<Uv>,

@@ -14,10 +14,17 @@ pub struct Sample {
     pub deviation: f64,
 }
 
+/// Where the final part gets its points from.
+pub enum Evaluation {
+    On(Surface),
+    /// The points in the order in which they are asked for, whatever u and v.
+    InOrder(Vec<[f64; 3]>),
+}
+
 pub struct Scene {
     /// All points of the sheet in file order; the index names the sample.
     pub samples: Vec<Sample>,
-    pub surface: Surface,
+    evaluation: Evaluation,
     /// The sample whose parameters were just asked for: the evaluation that
     /// follows measures its deviation.
     pending: Option<usize>,
@@ -26,10 +33,10 @@ pub struct Scene {
 }
 
 impl Scene {
-    pub fn new(samples: Vec<Sample>, surface: Surface) -> Scene {
+    pub fn new(samples: Vec<Sample>, evaluation: Evaluation) -> Scene {
         Scene {
             samples,
-            surface,
+            evaluation,
             pending: None,
             calls: Vec::new(),
         }
@@ -48,14 +55,17 @@ impl Scene {
     }
 
     /// Right after `parameters`: a point exactly the sample's deviation away
-    /// from its name, as root(d×d) is d. Later: a point of the surface.
+    /// from its name, as root(d×d) is d. Later: a point of the final part.
     pub fn evaluate(&mut self, uv: Uv) -> Option<[f64; 3]> {
         if let Some(index) = self.pending.take() {
             let name = Scene::name(index);
             return Some([name[0], self.samples[index].deviation, name[2]]);
         }
         self.calls.push(uv);
-        self.surface.point(uv[0], uv[1])
+        match &self.evaluation {
+            Evaluation::On(surface) => surface.point(uv[0], uv[1]),
+            Evaluation::InOrder(points) => points.get(self.calls.len() - 1).copied(),
+        }
     }
 }
 
