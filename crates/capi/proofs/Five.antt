@@ -9,7 +9,8 @@ use lib.IntN.{pos}
 use lib.ListN.{length, set}
 use borrow.Author.Tests.{eq-eqb, ne-eqb}
 use Rattle.leaves.specs.Constants.{zero}
-use Rattle.chart.specs.Answer.{Numbers, paper}
+use Rattle.sheet.specs.Outcome.{Numbers}
+use Rattle.chart.specs.Answer.{paper}
 use Rattle.chart.specs.Chart.{Charted, charted}
 use Rattle.chart.proofs.Answers.{paper-point, paper-refused}
 use Rattle.chart.specs.declared.answer.Answer.{Answer}

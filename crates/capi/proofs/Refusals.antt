@@ -10,7 +10,7 @@ use lib.Ieee.{Float, ofBits}
 use lib.ListN.{length}
 use borrow.Author.Tests.{eq-eqb}
 use Rattle.leaves.specs.Constants.{zero}
-use Rattle.chart.specs.Answer.{Numbers, refused}
+use Rattle.sheet.specs.Outcome.{Numbers, refused}
 use Rattle.chart.specs.Chart.{chartOf}
 use Rattle.chart.proofs.Refusals.{chart-refused, chart-status-most}
 use Rattle.picker.specs.ImagePick.{imagePickOf}

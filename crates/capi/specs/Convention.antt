@@ -6,7 +6,7 @@ use lib.Dec.{eqb}
 use lib.IntN.{pos}
 use lib.ListN.{length}
 use lib.Ieee.{Float, binary64, ofInt}
-use Rattle.chart.specs.Answer.{Numbers}
+use Rattle.sheet.specs.Outcome.{Numbers}
 use Rattle.chart.specs.Chart.{Charted, chartOf}
 use Rattle.picker.specs.ImagePick.{imagePickOf}
 use Rattle.picker.specs.PlanePick.{planePickOf}

@@ -17,7 +17,8 @@ use Rattle.sheet.proofs.Checked.{none-fails}
 use Rattle.rings.specs.Unroll.{movedRing}
 use Rattle.rings.proofs.Flat.{pairs-flat, length-flat}
 use Rattle.rings.proofs.Moved.{length-moved}
-use Rattle.chart.specs.Answer.{Numbers, paper, settled}
+use Rattle.sheet.specs.Outcome.{Numbers, settled}
+use Rattle.chart.specs.Answer.{paper}
 use Rattle.chart.specs.Chart.{Charted, charted, chartOf, frameChecks, movedRings, frame, chosen, answered, noneClear, pointCount, phaseWrong, roomWrong, written, writtenPoint}
 use Rattle.chart.specs.Stages.{Passed}
 use Rattle.chart.specs.declared.answer.Answer.{Answer}
@@ -26,7 +27,8 @@ use Rattle.chart.specs.declared.candidate.Candidate.{Candidate}
 use Rattle.chart.specs.declared.frame.Frame.{Frame}
 use Rattle.chart.proofs.Calling.{sheet-moved, numbers-count, refusal-left}
 use Rattle.chart.proofs.Outcomes.{chart-numbers, chart-points, answered-status, frame-numbered}
-use Rattle.chart.proofs.Answers.{paper-point, paper-refused, settled-none, settled-status}
+use Rattle.sheet.proofs.Settled.{settled-none, settled-status}
+use Rattle.chart.proofs.Answers.{paper-point, paper-refused}
 
 -- ---- the numbers of an answer
 

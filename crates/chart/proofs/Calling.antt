@@ -19,7 +19,8 @@ use Rattle.rings.specs.Unroll.{movedRing}
 use Rattle.rings.proofs.Flat.{pairs-flat, length-flat}
 use Rattle.rings.proofs.Moved.{length-moved}
 use Rattle.rings.proofs.Opening.{opening}
-use Rattle.chart.specs.Answer.{Numbers, refused, paper, settled}
+use Rattle.sheet.specs.Outcome.{Numbers, refused, settled}
+use Rattle.chart.specs.Answer.{paper}
 use Rattle.chart.specs.Chart.{candidate, answered, noneClear, charted, chartOf, chartChecks, frameChecks, movedRings, frame, joinsOpen, chosen, pointCount, phaseWrong, roomWrong, written, writtenPoint}
 use Rattle.chart.specs.Frame.{frameOf, bandWide, narrow}
 use Rattle.chart.specs.Parts.{ringsFrom, endsFrom}

@@ -15,7 +15,7 @@ use Rattle.sheet.specs.Content.{Sheet}
 use Rattle.sheet.specs.Layout.{sheetOf}
 use Rattle.sheet.specs.Checks.{Check, check, first, layoutChecks, contentChecks}
 use Rattle.sheet.proofs.Checked.{Beyond, Numbered, first-passed}
-use Rattle.chart.specs.Answer.{Numbers, refused, settled}
+use Rattle.sheet.specs.Outcome.{Numbers, refused, settled}
 use Rattle.chart.specs.Grid.{gridPoint}
 use Rattle.chart.specs.Search.{search}
 use Rattle.chart.specs.Chart.{candidate, frame, normalised, chosen, answered, noneClear, frameChecks, chartChecks, chartOf}
@@ -24,7 +24,7 @@ use Rattle.chart.specs.declared.candidate.Candidate.{Candidate}
 use Rattle.chart.proofs.Clearances.{clearance-held, clearance-number}
 use Rattle.chart.proofs.Clearest.{chosen-is, none-serves}
 use Rattle.chart.proofs.Outcomes.{Parted, chart-numbers, chart-status, down-numbered, first-above, first-passes}
-use Rattle.chart.proofs.Answers.{settled-status}
+use Rattle.sheet.proofs.Settled.{settled-status}
 
 -- ---- the search over a sheet's content, whatever the call
 

@@ -3,7 +3,7 @@ use mathlib.Core.Path.{_≡_, refl, sym, ap, _∙_}
 use mathlib.Core.Logic.{_⊎_, ⊎-elim}
 use mathlib.Core.Bool.{Bool, true, false, cond}
 use mathlib.Core.List.{List, [], _∷_, _++_}
-use Prim.Native.Nat.{ℕ, _≤_, _<_}
+use Prim.Native.Nat.{ℕ, _<_}
 use native.Mathlib.Decide.{ℕ-discrete}
 use native.Mathlib.Omega.{arith}
 use lib.Dec.{eqb, leb}
@@ -14,11 +14,11 @@ use Rattle.sheet.specs.Content.{Sheet}
 use Rattle.sheet.specs.Lists.{over}
 use Rattle.sheet.specs.Layout.{sheetOf}
 use Rattle.sheet.specs.Checks.{Check, check, first, layoutChecks, contentChecks}
-use Rattle.sheet.proofs.Checked.{Beyond, Numbered, Within, first-refused}
-use Rattle.chart.specs.Answer.{Numbers, refused, settled}
+use Rattle.sheet.proofs.Checked.{Beyond, Numbered, Within, first-most, first-refused}
+use Rattle.sheet.specs.Outcome.{Numbers, refused, settled}
 use Rattle.chart.specs.Chart.{Charted, charted, answered, chosen, frame, movedRings, outcome, written, phaseWrong, roomWrong, noneClear, frameChecks, chartChecks, chartOf}
 use Rattle.chart.specs.Demand.{Passes, downTo}
-use Rattle.chart.proofs.Answers.{settled-refused, settled-status}
+use Rattle.sheet.proofs.Settled.{settled-status}
 
 -- ---- the outcome
 
@@ -43,14 +43,6 @@ pub answered-status : (s : Sheet) (phase : ℕ) → answered (frame s phase) pha
 unfolding answered
 answered-status s phase = refl
 
--- ---- what the checks settle
-
--- by one last row
-pub settled-last : (n : ℕ) → 0 < n → (b : Bool) (numbers : Numbers) → settled (first (check n b ∷ [])) numbers ≡ cond b (refused n) numbers
-unfolding first settled
-settled-last n h true numbers = settled-refused n numbers (λ e. omega arith)
-settled-last n h false numbers = refl
-
 -- ---- the table
 
 -- the rows behind the layout's
@@ -61,15 +53,6 @@ laterChecks s phase room = contentChecks s ++ check 8 (phaseWrong s phase) ∷ c
 pub chart-checks : (s : List ℕ) (phase room : ℕ) → chartChecks s phase room ≡ layoutChecks s ++ laterChecks (sheetOf s) phase room
 unfolding chartChecks laterChecks layoutChecks
 chart-checks s phase room = refl
-
-pub first-most : (n : ℕ) (cs : List Check) → Within n cs → first cs ≤ n
-unfolding first
-first-most n [] h = omega arith
-first-most n (c ∷ cs) h = by (c .fails) (first-most n cs (h .1))
-  where
-    by : (b : Bool) → first cs ≤ n → cond b (c .number) (first cs) ≤ n
-    by true k = h .0
-    by false k = k
 
 -- ---- the rows of a table down to a number, and those behind
 

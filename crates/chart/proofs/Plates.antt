@@ -10,7 +10,7 @@ use lib.ListN.{length}
 use lib.Ieee.{Float, binary64, ofBits}
 use borrow.Author.Tests.{le-ltb}
 use Rattle.leaves.specs.Bounds.{smallerOf, largerOf}
-use Rattle.leaves.specs.Constants.{zero, decimal, deviationLimit, scaleLimit, joinLimit}
+use Rattle.leaves.specs.Constants.{zero, decimal, deviationLimit, scaleLimit, joinLimit, one}
 use Rattle.leaves.specs.Hypot.{hypotOf}
 use Rattle.leaves.specs.Root.{rootOf}
 use Rattle.leaves.specs.Round.{roundOf}
@@ -19,7 +19,6 @@ use Rattle.leaves.proofs.Examples.{round-two-and-a-half, round-minus-two-and-a-
 use Rattle.sheet.specs.Content.{Point, point}
 use Rattle.sheet.specs.Layout.{sheetOf, big}
 use Rattle.sheet.specs.Checks.{Check, check, first, layoutChecks, contentChecks}
-use Rattle.rings.specs.Clearance.{one}
 use Rattle.rings.specs.Coverage.{insideOf, windingOf}
 use Rattle.chart.specs.Chart.{joinsOpen, pointCount, phaseWrong, roomWrong, frameChecks, chartChecks, chartOf}
 use Rattle.chart.specs.Demand.{Passes, downTo}

@@ -11,9 +11,10 @@ use lib.Ieee.{Float}
 use Rattle.sheet.specs.Lists.{over}
 use Rattle.sheet.specs.Layout.{sheetOf}
 use Rattle.sheet.specs.Checks.{first, layoutChecks, contentChecks}
-use Rattle.chart.specs.Answer.{refused}
+use Rattle.sheet.specs.Outcome.{refused}
 use Rattle.chart.specs.Chart.{answered, chosen, frame, movedRings, written, frameChecks, chartChecks, chartOf}
-use Rattle.chart.proofs.Outcomes.{chart-numbers, chart-points, chart-status, first-most}
+use Rattle.sheet.proofs.Checked.{first-most}
+use Rattle.chart.proofs.Outcomes.{chart-numbers, chart-points, chart-status}
 
 checks-most : (s : List ℕ) (phase room : ℕ) → first (chartChecks s phase room) ≤ 14
 checks-most s phase room = first-most 14 (chartChecks s phase room) (unfold chartChecks layoutChecks contentChecks frameChecks in omega arith)

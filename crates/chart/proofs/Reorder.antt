@@ -13,7 +13,7 @@ use Rattle.sheet.specs.Checks.{first, layoutChecks}
 use Rattle.sheet.proofs.BlockOrder.{its-blocks, its-layout, its-rings, its-sheet, rings-clear, whole, withRings}
 use Rattle.sheet.proofs.Checked.{first-passed, layout-numbered}
 use Rattle.sheet.proofs.Reading.{ClearPoint}
-use Rattle.chart.specs.Answer.{Numbers, settled}
+use Rattle.sheet.specs.Outcome.{Numbers, settled}
 use Rattle.chart.specs.Chart.{answered, chosen, frame, chartOf}
 use Rattle.chart.proofs.AnyOrder.{same-answer, same-later}
 use Rattle.chart.proofs.Outcomes.{chart-checks, chart-numbers, laterChecks}

@@ -9,7 +9,8 @@ use Rattle.leaves.specs.Constants.{clearanceLimit}
 use Rattle.leaves.proofs.ConstantBits.{clearanceLimit-bits}
 use Rattle.sheet.specs.Checks.{first}
 use Rattle.sheet.specs.Content.{Point}
-use Rattle.chart.specs.Answer.{paper, settled}
+use Rattle.sheet.specs.Outcome.{settled}
+use Rattle.chart.specs.Answer.{paper}
 use Rattle.chart.specs.Chart.{candidate, answered, noneClear}
 use Rattle.chart.specs.Frame.{bandWide, narrow}
 use Rattle.chart.specs.Stages.{isPoint, anyOpen, normalisedBy, stageChecks, foundIn}

@@ -16,7 +16,7 @@ use Rattle.rings.specs.Joins.{opens, ringOpen}
 use Rattle.rings.specs.Normalise.{normal}
 use Rattle.rings.specs.Coverage.{crossing}
 use Rattle.rings.specs.Clearance.{nearer}
-use Rattle.chart.specs.Answer.{Numbers, refused}
+use Rattle.sheet.specs.Outcome.{Numbers, refused}
 use Rattle.chart.specs.Frame.{frameOf, bandWide, narrow}
 use Rattle.chart.specs.Grid.{gridPoint}
 use Rattle.chart.specs.Search.{search}

@@ -4,9 +4,8 @@ use mathlib.Core.List.{List, [], _∷_, _++_, map, flatMap}
 use Prim.Native.Nat.{ℕ, zero, suc, _-_, _/_, _%_, _^_}
 use lib.ListN.{length}
 use lib.Ieee.{Float, binary64, round, toBits}
-use Rattle.leaves.specs.Constants.{zero as plusZero, decimal}
+use Rattle.leaves.specs.Constants.{zero as plusZero, decimal, one}
 use Rattle.sheet.specs.Content.{Point, point, Coedge, Sheet}
-use Rattle.rings.specs.Clearance.{one}
 use Rattle.chart.specs.Grid.{upFrom}
 
 -- ---- "Square (0,0) (1,0) (1,1) (0,1)"

@@ -12,7 +12,7 @@ use Rattle.sheet.specs.Lists.{anyOf}
 use Rattle.rings.specs.Joins.{ringOpen, every}
 use Rattle.rings.specs.Normalise.{normal}
 use Rattle.rings.specs.Unroll.{movedRing}
-use Rattle.chart.specs.Answer.{Numbers, settled}
+use Rattle.sheet.specs.Outcome.{Numbers, settled}
 use Rattle.chart.specs.Chart.{candidate, answered, noneClear, phaseWrong, roomWrong}
 use Rattle.chart.specs.Frame.{bandWide, narrow}
 use Rattle.chart.specs.declared.answer.Answer.{Answer}

@@ -1,9 +1,9 @@
--- Each decimal constant has the bits of the nearest f64, which are those that the code's literal shows; 1/0 is infinity. By computation.
+-- Each decimal constant has the bits of the nearest f64, which are those that the code's literal shows; 1/0 is infinity, and -1/0 the negative one. By computation.
 use mathlib.Core.Path.{_≡_, refl}
-use mathlib.Core.Bool.{false}
+use mathlib.Core.Bool.{true, false}
 use Prim.Native.Nat.{_^_}
 use lib.Dec.{T}
-use lib.Ieee.{binary64, inf, div, ofBits, fits, lt}
+use lib.Ieee.{binary64, inf, neg, div, ofBits, fits, lt}
 use lib.Ieee.Fits.{round-fits}
 use Rattle.leaves.specs.Constants.{zero, decimal, deviationLimit, scaleLimit, joinLimit, clearanceLimit, physicalLimit, micro, endLimit, parallel, degenerateLimit}
 
@@ -43,10 +43,14 @@ pub degenerateLimit-bits : degenerateLimit ≡ ofBits binary64 0x3C32725DD1D243A
 unfolding degenerateLimit ofBits
 degenerateLimit-bits = refl
 
--- infinity, which has no literal, is written 1.0 / 0.0
+-- the infinities, which have no literal, are written 1.0 / 0.0 and -1.0 / 0.0
 pub infinity-bits : div binary64 (ofBits binary64 0x3FF0000000000000) (ofBits binary64 0) ≡ inf false
 unfolding div ofBits
 infinity-bits = refl
+
+pub minus-infinity-bits : div binary64 (neg (ofBits binary64 0x3FF0000000000000)) (ofBits binary64 0) ≡ inf true
+unfolding div neg ofBits
+minus-infinity-bits = refl
 
 -- ---- the limit of refusal 14: a value of the format, and 0 is not above it
 

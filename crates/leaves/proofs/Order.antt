@@ -11,9 +11,9 @@ use lib.IntN.{ℤ}
 use lib.Dec.{T, T-not, not-T, ltb, eqb, eqb→eq, lt→ltb, ltb→lt, nltb→le}
 use lib.Arith.{le→nltb}
 use lib.Pow.{pow-pos}
-use lib.Ieee.{Float, nan, inf, fin, Format, low, up, down, fits, isNan, lt, eq, le}
+use lib.Ieee.{Float, nan, inf, fin, Format, low, up, down, neg, fits, isNan, lt, eq, le}
 use lib.Ieee.Fits.{and-i, and-l, and-r, down-pos, eq→eqb}
-use lib.Ieee.Scale.{overflow}
+use lib.Ieee.Scale.{finite, overflow}
 use Rattle.leaves.proofs.Values.{same-units, units-over, units-over-swapped, units-small, units-zero, unitsIn}
 
 abbrev pub minusZero : Float → Bool
@@ -42,6 +42,14 @@ same-test false false p q = refl
 or-l : (a b : Bool) → T a → T (a || b)
 or-l true b t = tt
 or-l false b t = absurd t
+
+or-r : (a b : Bool) → T b → T (a || b)
+or-r true b t = tt
+or-r false b t = t
+
+or-rest : (a b : Bool) → T (not a) → T (a || b) → T b
+or-rest true b n t = absurd n
+or-rest false b n t = t
 
 same-lt : (a b p q : ℕ) → (a < b → p < q) → (p < q → a < b) → ltb a b ≡ ltb p q
 same-lt a b p q h k = same-test (ltb a b) (ltb p q) (λ t. lt→ltb p q (h (ltb→lt a b t))) (λ t. lt→ltb a b (k (ltb→lt p q t)))
@@ -230,6 +238,17 @@ pub lt→le : (x y : Float) → T (lt x y) → T (le x y)
 unfolding le
 lt→le x y l = or-l (lt x y) (eq x y) l
 
+pub eq→le : (x y : Float) → T (eq x y) → T (le x y)
+unfolding le
+eq→le x y e = or-r (lt x y) (eq x y) e
+
+pub eq→not-lt : (x y : Float) → T (eq x y) → T (not (lt y x))
+eq→not-lt x y e = le→not-lt x y (eq→le x y e)
+
+pub le-antisym : (x y : Float) → T (le x y) → T (le y x) → T (eq x y)
+unfolding le
+le-antisym x y p q = or-rest (lt x y) (eq x y) (le→not-lt y x q) p
+
 pub lt-asym : (x y : Float) → T (lt x y) → T (lt y x) → ⊥
 lt-asym x y l = T-not (lt y x) (le→not-lt x y (lt→le x y l))
 
@@ -238,6 +257,28 @@ lt-irrefl x l = lt-asym x x l l
 
 pub le-self : (x : Float) → T (not (isNan x)) → T (le x x)
 le-self x h = not-lt→le x x h h (not-T (lt x x) (lt-irrefl x))
+
+-- ---- what lies between finite values is finite
+
+between-finite : (a x b : Float) → T (finite a) → T (finite b) → T (le a x) → T (le x b) → T (finite x)
+unfolding le lt eq isNan
+between-finite a nan b h k p q = absurd (le-right a nan p)
+between-finite nan (inf true) b h k p q = absurd h
+between-finite (inf s) (inf true) b h k p q = absurd h
+between-finite (fin s m e) (inf true) b h k p q = absurd p
+between-finite a (inf false) nan h k p q = absurd k
+between-finite a (inf false) (inf t) h k p q = absurd k
+between-finite a (inf false) (fin t n d) h k p q = absurd q
+between-finite a (fin s m e) b h k p q = tt
+
+neg-finite : (x : Float) → T (finite x) → T (finite (neg x))
+unfolding neg
+neg-finite nan h = h
+neg-finite (inf s) h = h
+neg-finite (fin s m e) h = tt
+
+pub within-finite : (limit x : Float) → T (finite limit) → T (le (neg limit) x) → T (le x limit) → T (finite x)
+within-finite limit x h = between-finite (neg limit) x limit (neg-finite limit h) h
 
 -- ---- chains, by the places
 

@@ -6,11 +6,18 @@ use lib.Ieee.{Float, binary64, ofBits, round}
 abbrev pub zero : Float
 zero = ofBits binary64 0
 
+abbrev pub one : Float
+one = ofBits binary64 0x3FF0000000000000
+
 abbrev pub pi : Float
 pi = ofBits binary64 0x400921FB54442D18
 
 abbrev pub tau : Float
 tau = ofBits binary64 0x401921FB54442D18
+
+-- the greatest finite number
+abbrev pub greatestFinite : Float
+greatestFinite = ofBits binary64 0x7FEFFFFFFFFFFFFF
 
 -- digits / 10 ^ places, rounded once
 unfoldable pub decimal : ℕ → ℕ → Float

@@ -8,6 +8,11 @@ unfoldable pub lifted : Float → Float
 unfolding add lt
 lifted r = cond (lt r zero) (add binary64 r tau) r
 
+-- Rust's `rem_euclid` by TAU
+unfoldable pub remTau : Float → Float
+unfolding lifted rem
+remTau x = lifted (rem binary64 x tau)
+
 unfoldable pub turnOf : Float → Float
-unfolding lifted add sub rem
-turnOf v = sub binary64 (lifted (rem binary64 (add binary64 (add binary64 v pi) pi) tau)) pi
+unfolding remTau add sub
+turnOf v = sub binary64 (remTau (add binary64 (add binary64 v pi) pi)) pi

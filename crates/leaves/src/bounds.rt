@@ -1,6 +1,6 @@
-// Smaller-of, larger-of and clamp, as document 01 words them.
+// Smaller-of, larger-of and clamp, as document 01 words them, and a magnitude over a limit.
 ghost use mathlib.Core.Path.{_≡_};
-ghost use Rattle.leaves.specs.Bounds.{smallerOf, largerOf, clampOf};
+ghost use Rattle.leaves.specs.Bounds.{smallerOf, largerOf, clampOf, exceedsOf};
 
 // The first, unless the second is less: so the first at equality, and beside a NaN.
 pub fn smaller_of(a: f64, b: f64) -> f64
@@ -27,4 +27,11 @@ pub fn clamp(x: f64, low: f64, high: f64) -> f64
     } else {
         x
     }
+}
+
+// Whether d is over the limit in magnitude.
+pub fn exceeds(d: f64, limit: f64) -> bool
+    ensures { λ r. ⌜ r ≡ exceedsOf d limit ⌝ }
+{
+    if limit < d { true } else { limit < -d }
 }

@@ -5,6 +5,9 @@ pub const PI: f64 = 3.141592653589793; // 400921FB54442D18
 
 pub const TAU: f64 = 6.283185307179586; // 401921FB54442D18
 
+// The greatest finite number: a number is finite where its magnitude is at most it.
+pub const GREATEST_FINITE: f64 = 1.7976931348623157e308; // 7FEFFFFFFFFFFFFF
+
 // Refusal 7: a deviation is below it.
 pub const DEVIATION_LIMIT: f64 = 0.002; // 3F60624DD2F1A9FC
 

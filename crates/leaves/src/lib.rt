@@ -11,6 +11,7 @@ mod square_root;
 mod turning;
 
 pub use bounds::clamp;
+pub use bounds::exceeds;
 pub use bounds::larger_of;
 pub use bounds::smaller_of;
 pub use hypotenuse::hypot;
@@ -19,4 +20,5 @@ pub use hypotenuse::hypot3;
 pub use hypotenuse::key;
 pub use nearest::round;
 pub use square_root::root;
+pub use turning::rem_tau;
 pub use turning::turn;

@@ -14,22 +14,22 @@ use Rattle.leaves.specs.Bounds.{largerOf}
 use Rattle.leaves.specs.Constants.{zero, physicalLimit}
 use Rattle.leaves.proofs.Choices.{larger-keeps, larger-swap}
 use Rattle.leaves.proofs.Folds.{All, all-append, fold-keeps, fold-perm}
+use Rattle.space.specs.declared.vectors.Place.{Place}
 use Rattle.sheet.specs.Content.{Point, point, Coedge, Sheet, ringPoints}
 use Rattle.sheet.specs.Checks.{Check, check, first, beyond, contentChecks}
 use Rattle.sheet.proofs.BlockOrder.{withRings}
 use Rattle.sheet.proofs.Checked.{append-none, content-numbered, first-refused, none-fails}
 use Rattle.sheet.proofs.Permutations.{any-of-perm, map-perm, perm-length}
 use Rattle.sheet.proofs.Reading.{ClearPoint, ClearDeviation}
-use Rattle.chart.specs.Answer.{Numbers, refused, settled}
+use Rattle.sheet.specs.Outcome.{Numbers, refused, settled}
 use Rattle.chart.specs.Chart.{chosen, pointCount, phaseWrong, frameChecks, writtenPoint}
 use Rattle.chart.proofs.AnyOrder.{same-content, same-phase, same-count, moved-perm, same-chosen, same-frame-checks, same-answer}
-use Rattle.chart.proofs.Answers.{settled-refused}
+use Rattle.sheet.proofs.Settled.{settled-refused}
 use Rattle.picker.specs.Space.{physicalClearance}
 use Rattle.picker.specs.Images.{ringImages, lastImage}
 use Rattle.picker.specs.Physical.{deviates, greatestDeviation, eight, physicalLeast, tooClose, answeredAt}
 use Rattle.picker.specs.ImagePick.{imageLimit, imagesWrong, imageClose}
 use Rattle.picker.specs.PlanePick.{onPlane, planeImages, planePoint, noPlane, planeClose}
-use Rattle.picker.specs.declared.space.Place.{Place}
 use Rattle.picker.proofs.Nearness.{physical-perm}
 use Rattle.picker.proofs.Picks.{imageRows, planeRows}
 

@@ -8,26 +8,29 @@ use lib.Dec.{eqb}
 use lib.Ieee.{Float}
 use lib.ListN.{length}
 use borrow.Author.Tests.{eq-eqb, eqb-true, ne-eqb, not-false}
+use Rattle.space.specs.Places.{flat, placeAt}
+use Rattle.space.specs.declared.vectors.Place.{Place}
 use Rattle.sheet.specs.Checks.{Check, check, first, beyond, layoutChecks, contentChecks}
 use Rattle.sheet.specs.Content.{Sheet, point, pairs}
 use Rattle.sheet.specs.Layout.{kind, sheetOf}
 use Rattle.sheet.specs.Lists.{anyOf}
 use Rattle.sheet.proofs.Checked.{append-none, layout-numbered, neither, first-here, first-later, first-none, first-passed, first-refused, sheet-numbered}
 use Rattle.sheet.proofs.Planes.{sheet-kind}
-use Rattle.chart.specs.Answer.{Numbers, refused, paper, settled}
+use Rattle.sheet.specs.Outcome.{Numbers, refused, settled}
+use Rattle.chart.specs.Answer.{paper}
 use Rattle.chart.specs.Chart.{charted, chartOf, chosen, frameChecks, pointCount, phaseWrong}
 use Rattle.chart.specs.declared.answer.Answer.{Answer}
 use Rattle.chart.specs.declared.answer.Answer.the-variants.{Point as Answered, Refused}
 use Rattle.chart.specs.declared.candidate.Candidate.{Candidate}
-use Rattle.chart.proofs.Answers.{paper-point, paper-refused, settled-refused}
+use Rattle.sheet.proofs.Settled.{settled-refused, settled-last}
+use Rattle.chart.proofs.Answers.{paper-point, paper-refused}
 use Rattle.chart.proofs.Called.{phase-zero, passed, called-refused, called-answered}
-use Rattle.chart.proofs.Outcomes.{frame-numbered, settled-last}
+use Rattle.chart.proofs.Outcomes.{frame-numbered}
 use Rattle.picker.specs.ImagePick.{imageLimit, imagesWrong, imageClose, imagePickOf}
-use Rattle.picker.specs.Images.{flat, placeAt, ringImages, lastImage}
+use Rattle.picker.specs.Images.{ringImages, lastImage}
 use Rattle.picker.specs.Physical.{tooClose, answeredAt, reported, closing}
 use Rattle.picker.specs.PlanePick.{onPlane, planeImages, noPlane, planePickOf}
 use Rattle.picker.specs.Stages.{ImagePassed, PlanePassed}
-use Rattle.picker.specs.declared.space.Place.{Place}
 use Rattle.picker.proofs.OnPlane.{written-imaged}
 use Rattle.picker.proofs.Picks.{Own, closeAt, image-is, image-own, imageRows, pickChecks, pickOf, plane-is, plane-own, planeAt, planeRows}
 

@@ -9,15 +9,16 @@ use lib.Ieee.{Float, nan}
 use lib.ListN.{length, getD, take, drop, take-append-drop, length-append, length-drop}
 use lib.Seq.{length-take-le, getD-drop, drop-drop, take-at, drop-at}
 use Rattle.leaves.proofs.Folds.{All}
+use Rattle.space.specs.Vectors.{place}
+use Rattle.space.specs.Places.{triples, placeAt}
+use Rattle.space.specs.declared.vectors.Place.{Place}
 use Rattle.sheet.specs.Content.{Sheet}
 use Rattle.sheet.specs.Layout.{ring}
 use Rattle.sheet.proofs.BlockOrder.{withRings}
 use Rattle.chart.specs.Chart.{pointCount}
 use Rattle.chart.proofs.Counting.{count-none, count-cons}
-use Rattle.picker.specs.Space.{place}
-use Rattle.picker.specs.Images.{triples, placeAt, imageNumbers, ringImages, lastImage}
+use Rattle.picker.specs.Images.{imageNumbers, ringImages, lastImage}
 use Rattle.picker.specs.Demand.{Imaged, imaged}
-use Rattle.picker.specs.declared.space.Place.{Place}
 
 abbrev pub blockOf : Imaged → List ℕ
 blockOf r = r .block
@@ -98,7 +99,6 @@ module _ (z : Sheet) where
 -- ---- the last image is what stands behind those of all points
 
 place-behind : (xs : List Float) (n : ℕ) → placeAt xs n ≡ placeAt (drop n xs) 0
-unfolding placeAt
 place-behind xs n = λ i. place ((ap (λ (m : ℕ). getD xs m nan) (sym (add-zero n)) ∙ sym (getD-drop n xs 0 nan)) i) (sym (getD-drop n xs 1 nan) i) (sym (getD-drop n xs 2 nan) i)
 
 pub last-behind : (z : Sheet) (images : List Float) → lastImage z images ≡ placeAt (drop (3 * pointCount z) images) 0

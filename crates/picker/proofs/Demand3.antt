@@ -8,10 +8,11 @@ use Prim.Native.Nat.{ℕ, _+_, _*_}
 use lib.Ieee.{Float}
 use lib.IntN.{_+ℤ_}
 use lib.ListN.{length}
+use Rattle.space.specs.declared.vectors.Place.{Place}
 use Rattle.sheet.specs.Content.{Point, point, Sheet}
 use Rattle.sheet.specs.Layout.{head, blocks, sheetOf}
 use Rattle.sheet.specs.Checks.{first, layoutChecks}
-use Rattle.chart.specs.Answer.{Numbers, refused}
+use Rattle.sheet.specs.Outcome.{Numbers, refused}
 use Rattle.chart.specs.Chart.{answered, chartChecks, chartOf, crossings, frame, normalised, pointCount}
 use Rattle.chart.specs.Demand.{NoneServes, Clearest, Passes, candidateAt, clearAt, coverAt, others, picked}
 use Rattle.chart.specs.declared.candidate.Candidate.{Candidate}
@@ -23,7 +24,6 @@ use Rattle.picker.specs.ImagePick.{imageChecks, imageClose, imagePickOf}
 use Rattle.picker.specs.Images.{lastImage}
 use Rattle.picker.specs.Physical.{answeredAt, tooClose}
 use Rattle.picker.specs.PlanePick.{onPlane, planeChecks, planeImages, planePickOf}
-use Rattle.picker.specs.declared.space.Place.{Place}
 use Rattle.picker.proofs.GridRule.{image-grid-rule, plane-grid-rule}
 use Rattle.picker.proofs.Groups.{image-groups-add, plane-groups-add}
 use Rattle.picker.proofs.Reorder.{every-order, image-pick-reordered, image-pick-wrong-length, plane-pick-reordered}

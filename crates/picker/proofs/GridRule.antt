@@ -11,20 +11,21 @@ use mathlib.Core.List.{List, [], _∷_}
 use Prim.Native.Nat.{ℕ, _<_}
 use native.Mathlib.Omega.{arith}
 use lib.Ieee.{Float}
+use Rattle.space.specs.declared.vectors.Place.{Place}
 use Rattle.sheet.specs.Content.{point}
 use Rattle.sheet.specs.Layout.{sheetOf}
 use Rattle.sheet.specs.Checks.{Check, check, first}
-use Rattle.chart.specs.Answer.{refused}
+use Rattle.sheet.specs.Outcome.{refused}
 use Rattle.chart.specs.Chart.{answered, chosen, frame, noneClear}
 use Rattle.chart.specs.Demand.{Clearest, NoneServes, Passes, candidateAt, clearAt, coverAt, downTo}
 use Rattle.chart.specs.declared.candidate.Candidate.{Candidate}
 use Rattle.chart.proofs.GridRule.{Call, grid-rule}
-use Rattle.chart.proofs.Outcomes.{first-above, first-passes, settled-last}
+use Rattle.sheet.proofs.Settled.{settled-last}
+use Rattle.chart.proofs.Outcomes.{first-above, first-passes}
 use Rattle.picker.specs.Images.{lastImage}
 use Rattle.picker.specs.ImagePick.{imageChecks, imageClose, imagePickOf}
 use Rattle.picker.specs.Physical.{answeredAt, tooClose}
 use Rattle.picker.specs.PlanePick.{onPlane, planeChecks, planeImages, planePickOf}
-use Rattle.picker.specs.declared.space.Place.{Place}
 use Rattle.picker.proofs.Picks.{Own, closeAt, image-checks-are, image-is, image-own, image-parted, imageRows, pick-numbered, pick-parted, pickChecks, pickOf, plane-checks-are, plane-is, plane-own, plane-parted, planeAt, planeRows}
 use Rattle.picker.proofs.Refusals.{image-pick-status, plane-pick-status}
 

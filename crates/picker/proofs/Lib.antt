@@ -1,7 +1,6 @@
 -- Laws about the definitions of `picker`, by subject, and its theorems.
 
--- places that stand in a list of numbers; the least distance in space
-pub mod Triples
+-- the least distance in space
 pub mod Nearness
 -- the images on the sheet's plane
 pub mod OnPlane

@@ -7,12 +7,12 @@ use lib.Ieee.Fits.{inf-fits}
 use Rattle.leaves.specs.Hypot.{hypotOf, hypotOfKey}
 use Rattle.leaves.proofs.Choices.{Clear}
 use Rattle.leaves.proofs.Hypotenuses.{Key, key-is, inf-key, hypot-of-inf, hypot3-by-key, hypot3-clear}
+use Rattle.space.specs.declared.vectors.Place.{Place}
 use Rattle.rings.specs.Clearance.{leastOf}
 use Rattle.rings.specs.Segments.{Between}
 use Rattle.rings.proofs.LeastDistance.{rings-perm}
 use Rattle.rings.proofs.Nearest.{nearest-by-key}
 use Rattle.picker.specs.Space.{residual, distance, segmentKey, physicalClearance}
-use Rattle.picker.specs.declared.space.Place.{Place}
 
 module _ (p : Place) where
   -- ---- one segment

@@ -7,24 +7,24 @@ use native.Mathlib.Omega.{arith}
 use lib.Ieee.{Float, nan}
 use lib.ListN.{length, getD, take, drop, set, length-map, length-set}
 use lib.Seq.{take-all, take-at, drop-at, drop-drop, take-suc-set}
+use Rattle.space.specs.Vectors.{crossOf, place}
+use Rattle.space.specs.Places.{flat, triples, placeAt}
+use Rattle.space.specs.declared.vectors.Place.{Place}
+use Rattle.space.proofs.Triples.{flat-none, flat-cons, triples-flat, flat-append, length-flat}
 use Rattle.sheet.specs.Content.{Point, Coedge, Sheet, ringPoints, pairs}
 use Rattle.sheet.specs.Layout.{kind, number, numbers, sheetOf}
 use Rattle.sheet.proofs.Planes.{numbers-at, sheet-plane}
 use Rattle.rings.proofs.Flat.{length-pairs}
 use Rattle.chart.specs.Chart.{movedRings, written, writtenPoint}
 use Rattle.chart.proofs.Called.{moved-lengths, pairs-written}
-use Rattle.picker.specs.Images.{flat, triples, placeAt, imageNumbers, ringImages}
-use Rattle.picker.specs.PlanePick.{crossOf, onAxes, onPlane, planeImages}
-use Rattle.picker.specs.Space.{place}
-use Rattle.picker.specs.declared.space.Place.{Place}
-use Rattle.picker.proofs.Triples.{triples-flat, flat-append, length-flat}
+use Rattle.picker.specs.Images.{imageNumbers, ringImages}
+use Rattle.picker.specs.PlanePick.{onAxes, onPlane, planeImages}
 
 -- ---- a plane's places
 
 -- three of n numbers, from place k on
 place-of-numbers : (n : ℕ) (s : List ℕ) (at k : ℕ) → k + 2 < n → placeAt (numbers n (drop at s)) k
     ≡ place (number (drop (at + 8 * k) s)) (number (drop (at + 8 * k + 8) s)) (number (drop (at + 8 * k + 16) s))
-unfolding placeAt
 place-of-numbers n s at k h =
     let e₁ : at + 8 * (k + 1) ≡ at + 8 * k + 8 = omega arith in
     let e₂ : at + 8 * (k + 2) ≡ at + 8 * k + 16 = omega arith in
@@ -85,19 +85,18 @@ module _ (f : Point → Place) where
   -- the next one is stored
   pub imaging-step : (images : List Float) (k : ℕ) (whole : List Point) {rest left : List Point} {q : Point} {p : Place} → Imaging images k rest whole → 3 * k + 2 < length images → rest ≡ q ∷ left → p ≡ f q
       → Imaging (set (set (set images (3 * k) (p .x)) (3 * k + 1) (p .y)) (3 * k + 2) (p .z)) (k + 1) left whole
-  unfolding flat
   imaging-step images k whole {left = left} {p = p} w h e i =
       let n : 3 * (k + 1) ≡ 3 * k + 3 = omega arith in
       rw (n, three-stores images (3 * k) p h) (append-assoc (take (3 * k) images) (p .x ∷ p .y ∷ p .z ∷ []) (flat (map f left)))
-      ∙ ap (λ (r : Place). take (3 * k) images ++ r .x ∷ r .y ∷ r .z ∷ flat (map f left)) i
+      ∙ ap (λ (l : List Float). take (3 * k) images ++ l) (sym (flat-cons p (map f left)))
+      ∙ ap (λ (r : Place). take (3 * k) images ++ flat (r ∷ map f left)) i
       ∙ ap (λ (l : List Point). take (3 * k) images ++ flat (map f l)) (sym e)
       ∙ w
 
   -- none is left, and they fill the list
   pub imaging-end : (images : List Float) (k : ℕ) (whole : List Point) {rest : List Point} → Imaging images k rest whole → rest ≡ [] → length images ≤ 3 * k → images ≡ flat (map f whole)
-  unfolding flat
   imaging-end images k whole w e h =
-      sym (take-all (3 * k) images h) ∙ sym (append-nil (take (3 * k) images)) ∙ ap (λ (l : List Point). take (3 * k) images ++ flat (map f l)) (sym e) ∙ w
+      sym (take-all (3 * k) images h) ∙ sym (append-nil (take (3 * k) images)) ∙ ap (λ (l : List Float). take (3 * k) images ++ l) (sym flat-none) ∙ ap (λ (l : List Point). take (3 * k) images ++ flat (map f l)) (sym e) ∙ w
 
   pub images-length : (xs : List Float) → length (flat (map f (pairs xs))) ≡ 3 * (length xs / 2)
   images-length xs = simp (length-flat, length-map, length-pairs)

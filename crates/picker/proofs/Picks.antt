@@ -7,21 +7,21 @@ use Prim.Native.Nat.{ℕ, _≤_, _<_}
 use native.Mathlib.Omega.{arith}
 use lib.Ieee.{Float}
 use Rattle.leaves.proofs.Folds.{All, all-append}
+use Rattle.space.specs.declared.vectors.Place.{Place}
 use Rattle.sheet.specs.Content.{point, Sheet}
 use Rattle.sheet.specs.Layout.{sheetOf}
 use Rattle.sheet.specs.Checks.{Check, check, first, layoutChecks, contentChecks}
-use Rattle.sheet.proofs.Checked.{Numbered, Within, content-numbered, content-within, layout-numbered, layout-within, within-up}
-use Rattle.chart.specs.Answer.{Numbers, refused, settled}
+use Rattle.sheet.proofs.Checked.{Numbered, Within, content-numbered, content-within, layout-numbered, layout-within, within-up, first-most}
+use Rattle.sheet.specs.Outcome.{Numbers, refused, settled}
 use Rattle.chart.specs.Chart.{answered, chosen, frame, frameChecks, noneClear, phaseWrong}
 use Rattle.chart.specs.Demand.{downTo}
 use Rattle.chart.specs.declared.candidate.Candidate.{Candidate}
-use Rattle.chart.proofs.Answers.{settled-refused, settled-status}
-use Rattle.chart.proofs.Outcomes.{Parted, down-within, first-most, frame-numbered, frame-parted, parted}
+use Rattle.sheet.proofs.Settled.{settled-refused, settled-status}
+use Rattle.chart.proofs.Outcomes.{Parted, down-within, frame-numbered, frame-parted, parted}
 use Rattle.picker.specs.Images.{lastImage}
 use Rattle.picker.specs.ImagePick.{imageChecks, imageClose, imagePickOf, imagesWrong}
 use Rattle.picker.specs.Physical.{answeredAt, tooClose}
 use Rattle.picker.specs.PlanePick.{noPlane, onPlane, planeChecks, planeClose, planeImages, planePickOf, planePoint}
-use Rattle.picker.specs.declared.space.Place.{Place}
 
 -- the table of a pick with the rows `own` between 7 and 11
 unfoldable pub pickChecks : List ℕ → List Check → ℕ → Bool → List Check

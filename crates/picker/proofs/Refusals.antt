@@ -7,7 +7,7 @@ use Prim.Native.Nat.{ℕ, _≤_}
 use lib.Ieee.{Float}
 use Rattle.sheet.specs.Layout.{sheetOf}
 use Rattle.sheet.specs.Checks.{first}
-use Rattle.chart.specs.Answer.{Numbers, refused}
+use Rattle.sheet.specs.Outcome.{Numbers, refused}
 use Rattle.chart.specs.Chart.{chosen}
 use Rattle.picker.specs.Images.{lastImage}
 use Rattle.picker.specs.ImagePick.{imageChecks, imageClose, imagePickOf}

@@ -10,20 +10,21 @@ use lib.Ieee.{Float}
 use lib.ListN.{length, drop}
 use lib.Seq.{drop-at}
 use Rattle.leaves.proofs.Folds.{All, all-perm}
+use Rattle.space.specs.Places.{placeAt}
+use Rattle.space.specs.declared.vectors.Place.{Place}
 use Rattle.sheet.specs.Content.{Coedge, Sheet}
 use Rattle.sheet.specs.Layout.{head, blocks, ring, sheetOf}
 use Rattle.sheet.specs.Checks.{Check, check, first, layoutChecks, contentChecks}
 use Rattle.sheet.proofs.BlockOrder.{deviations-clear, its-blocks, its-layout, its-rings, its-sheet, rings-are, rings-clear, whole, withRings}
 use Rattle.sheet.proofs.Checked.{first-passed, layout-numbered}
 use Rattle.sheet.proofs.Permutations.{flatten-perm, lift-perm, map-perm}
-use Rattle.chart.specs.Answer.{settled}
+use Rattle.sheet.specs.Outcome.{settled}
 use Rattle.chart.specs.Chart.{chosen, frameChecks, pointCount}
-use Rattle.picker.specs.Images.{lastImage, placeAt, ringImages}
+use Rattle.picker.specs.Images.{lastImage, ringImages}
 use Rattle.picker.specs.Physical.{answeredAt}
 use Rattle.picker.specs.ImagePick.{imageClose, imagePickOf}
 use Rattle.picker.specs.PlanePick.{planeClose, planePickOf, planePoint}
 use Rattle.picker.specs.Demand.{Imaged, imaged, imagesWith, sheetWith}
-use Rattle.picker.specs.declared.space.Place.{Place}
 use Rattle.picker.proofs.AnyOrder.{contentPick, imagePick, planePick, same-image-pick, same-plane-pick, same-wrong-pick}
 use Rattle.picker.proofs.Picks.{image-is, imageRows, pickChecks, pickOf, plane-is, planeRows}
 use Rattle.picker.proofs.Carried.{Fitting, blockOf, blocks-back, images-back, imagesOf, last-behind, numbersIn, parts-back, parts-fit, parts-length, placesOf, ring-images}

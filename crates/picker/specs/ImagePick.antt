@@ -9,7 +9,7 @@ use Rattle.sheet.specs.Content.{Sheet}
 use Rattle.sheet.specs.Lists.{anyOf}
 use Rattle.sheet.specs.Layout.{sheetOf}
 use Rattle.sheet.specs.Checks.{Check, check, first, beyond, layoutChecks, contentChecks}
-use Rattle.chart.specs.Answer.{Numbers, settled}
+use Rattle.sheet.specs.Outcome.{Numbers, settled}
 use Rattle.chart.specs.Chart.{chosen, pointCount, phaseWrong, frameChecks}
 use Rattle.picker.specs.Images.{ringImages, lastImage}
 use Rattle.picker.specs.Physical.{tooClose, answeredAt}

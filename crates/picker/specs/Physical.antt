@@ -5,11 +5,11 @@ use Prim.Native.Nat.{ℕ}
 use lib.Ieee.{Float, binary64, ofBits, mul, lt}
 use Rattle.leaves.specs.Bounds.{largerOf}
 use Rattle.leaves.specs.Constants.{zero, physicalLimit}
+use Rattle.space.specs.declared.vectors.Place.{Place}
 use Rattle.sheet.specs.Content.{Coedge, Sheet}
-use Rattle.chart.specs.Answer.{Numbers, refused}
+use Rattle.sheet.specs.Outcome.{Numbers, refused}
 use Rattle.chart.specs.declared.candidate.Candidate.{Candidate}
 use Rattle.picker.specs.Space.{physicalClearance}
-use Rattle.picker.specs.declared.space.Place.{Place}
 
 -- the larger of `so far` and the deviations of a ring's coedges
 unfoldable pub deviates : Float → List Coedge → Float

@@ -3,26 +3,18 @@ use mathlib.Core.Bool.{Bool, not}
 use mathlib.Core.List.{List, [], _∷_, _++_, map}
 use Prim.Native.Nat.{ℕ}
 use lib.Dec.{eqb}
-use lib.Ieee.{Float, binary64, add, sub, mul}
+use lib.Ieee.{Float, binary64, add, mul}
+use Rattle.space.specs.Vectors.{place, crossOf}
+use Rattle.space.specs.Places.{placeAt}
+use Rattle.space.specs.declared.vectors.Place.{Place}
 use Rattle.sheet.specs.Content.{Point, point, Sheet}
 use Rattle.sheet.specs.Layout.{sheetOf}
 use Rattle.sheet.specs.Checks.{Check, check, first, layoutChecks, contentChecks}
-use Rattle.chart.specs.Answer.{Numbers, settled}
+use Rattle.sheet.specs.Outcome.{Numbers, settled}
 use Rattle.chart.specs.Chart.{movedRings, frame, chosen, answered, writtenPoint, frameChecks}
-use Rattle.picker.specs.Space.{place}
-use Rattle.picker.specs.Images.{placeAt}
 use Rattle.picker.specs.Physical.{tooClose, answeredAt}
-use Rattle.picker.specs.declared.space.Place.{Place}
 
 -- ---- "Plane stand-in: (origin + u × u axis) + v × (normal cross u axis)"
-
-unfoldable pub crossOf : Place → Place → Place
-unfolding sub mul
-crossOf a b =
-    place
-    (sub binary64 (mul binary64 (a .y) (b .z)) (mul binary64 (a .z) (b .y)))
-    (sub binary64 (mul binary64 (a .z) (b .x)) (mul binary64 (a .x) (b .z)))
-    (sub binary64 (mul binary64 (a .x) (b .y)) (mul binary64 (a .y) (b .x)))
 
 -- one coordinate
 unfoldable pub reached : Float → Float → Float → Float → Float → Float
@@ -39,7 +31,7 @@ onAxes origin uAxis vAxis p =
 
 -- of a plane's nine numbers: "origin, u axis and normal, three f64 each"
 unfoldable pub onPlane : List Float → Point → Place
-unfolding onAxes placeAt crossOf
+unfolding onAxes
 onPlane plane p = onAxes (placeAt plane 0) (placeAt plane 3) (crossOf (placeAt plane 6) (placeAt plane 3)) p
 
 -- ---- the images of the chart's written points and of its answer, at phase 0

@@ -1,34 +1,23 @@
 -- Document 01, "Point": "Physical clearance is rule 8 in space, with three-term hypot, over all rings".
 use mathlib.Core.Bool.{false, cond}
 use mathlib.Core.List.{List, foldl}
-use lib.Ieee.{Float, inf, binary64, add, sub, mul, div, lt}
+use lib.Ieee.{Float, inf, binary64, sub, mul, div, lt}
 use Rattle.leaves.specs.Bounds.{clampOf}
-use Rattle.leaves.specs.Constants.{zero}
+use Rattle.leaves.specs.Constants.{zero, one}
 use Rattle.leaves.specs.Hypot.{keyOf, hypotOf, hypot3Of}
-use Rattle.rings.specs.Clearance.{one, leastOf}
+use Rattle.space.specs.Vectors.{place, minusOf, dotOf}
+use Rattle.space.specs.declared.vectors.Place.{Place}
+use Rattle.rings.specs.Clearance.{leastOf}
 use Rattle.rings.specs.Segments.{Between}
-use Rattle.picker.specs.declared.space.Place.{Place}
-
-abbrev pub place : Float → Float → Float → Place
-place x y z = record { x = x; y = y; z = z }
-
-unfoldable pub minusOf : Place → Place → Place
-unfolding sub
-minusOf a b = place (sub binary64 (a .x) (b .x)) (sub binary64 (a .y) (b .y)) (sub binary64 (a .z) (b .z))
-
-unfoldable pub dotOf : Place → Place → Float
-unfolding add mul
-dotOf a b = add binary64 (add binary64 (mul binary64 (a .x) (b .x)) (mul binary64 (a .y) (b .y))) (mul binary64 (a .z) (b .z))
 
 -- ---- "d = b − a; t = ((p − a)·d / d·d) clamped to 0..1, 0 if d·d is 0; hypot of p − a − t×d"
 
 unfoldable pub delta : Between Place → Place
-unfolding minusOf
 delta s = minusOf (s .b) (s .a)
 
 -- where along the segment the nearest point lies; the Rust asks d·d > 0, and clamps the 0 too
 unfoldable pub along : Place → Between Place → Float
-unfolding lt div dotOf minusOf delta
+unfolding lt div delta
 along p s = clampOf (cond (lt zero (dotOf (delta s) (delta s))) (div binary64 (dotOf (minusOf p (s .a)) (delta s)) (dotOf (delta s) (delta s))) zero) zero one
 
 -- one coordinate of p − a − t×d
@@ -37,7 +26,7 @@ unfolding sub mul
 left from t d = sub binary64 from (mul binary64 t d)
 
 unfoldable pub residual : Place → Between Place → Place
-unfolding left minusOf along delta
+unfolding left along delta
 residual p s =
     place
     (left (minusOf p (s .a) .x) (along p s) (delta s .x))

@@ -1,28 +1,12 @@
 // 10: the host's images.
 ghost use mathlib.Core.Path.{_≡_};
 ghost use Prim.Native.Nat.{_*_, _≤_};
-ghost use Rattle.sheet.specs.Checks.{beyond};
 ghost use Rattle.sheet.specs.Layout.{sheetOf};
-ghost use Rattle.sheet.specs.Lists.{anyOf};
 ghost use Rattle.chart.specs.Chart.{pointCount};
-ghost use Rattle.picker.specs.ImagePick.{imageLimit, imagesWrong};
+ghost use Rattle.picker.specs.ImagePick.{imagesWrong};
 
 // 2^30.
 const IMAGE_LIMIT: f64 = 1073741824.0;
-
-// Whether an entry is not finite or above 2^30 in magnitude.
-fn any_beyond(images: &[f64]) -> bool
-    ensures { λ r. ⌜ r ≡ anyOf (beyond imageLimit) (now (images .entry)) ⌝ }
-{
-    let mut k = 0;
-    while k < images.len() {
-        if sheet::is_beyond(IMAGE_LIMIT, images[k]) {
-            return true;
-        }
-        k += 1;
-    }
-    false
-}
 
 // 10: a list that is not 3 x (points + 1) long, or an entry beyond the limit.
 pub(crate) fn images_wrong(s: &[u8], images: &[f64]) -> bool
@@ -32,5 +16,5 @@ pub(crate) fn images_wrong(s: &[u8], images: &[f64]) -> bool
     if images.len() != 3 * (chart::point_numbers(s) / 2 + 1) {
         return true;
     }
-    any_beyond(images)
+    sheet::any_number_beyond(IMAGE_LIMIT, images)
 }

@@ -6,7 +6,7 @@ mod call;
 mod images;
 mod physical;
 mod plane;
-mod space;
+mod segments;
 
 pub use call::image_pick;
 pub use call::plane_pick;

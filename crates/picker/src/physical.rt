@@ -1,7 +1,7 @@
 // 15: the physical clearance, held against the greatest deviation.
-use crate::space::Place;
-use crate::space::nearer;
+use crate::segments::nearer;
 use leaves::constants::PHYSICAL_LIMIT;
+use space::Place;
 ghost use mathlib.Core.Path.{_≡_};
 ghost use mathlib.Core.List.{foldl};
 ghost use Prim.Native.Nat.{_*_, _≤_};

@@ -1,13 +1,13 @@
 // The plane stand-in: (origin + u x u axis) + v x (normal cross u axis).
-use crate::space::Place;
+use space::Place;
 ghost use mathlib.Core.Path.{_≡_};
 ghost use mathlib.Core.List.{map};
 ghost use Prim.Native.Nat.{_+_, _*_, _≤_};
 ghost use lib.ListN.{length, drop};
+ghost use Rattle.space.specs.Places.{flat, placeAt};
 ghost use Rattle.sheet.specs.Content.{point, pairs};
 ghost use Rattle.sheet.specs.Layout.{numbers};
-ghost use Rattle.picker.specs.Images.{flat, placeAt};
-ghost use Rattle.picker.specs.PlanePick.{crossOf, reached, onAxes};
+ghost use Rattle.picker.specs.PlanePick.{reached, onAxes};
 
 // The three numbers of the sheet that begin at `at`.
 pub(crate) fn numbers_at(s: &[u8], at: usize) -> Place
@@ -18,16 +18,6 @@ pub(crate) fn numbers_at(s: &[u8], at: usize) -> Place
         x: sheet::number(s, at),
         y: sheet::number(s, at + 8),
         z: sheet::number(s, at + 16),
-    }
-}
-
-pub(crate) fn cross(a: Place, b: Place) -> Place
-    ensures { λ r. ⌜ r ≡ crossOf a b ⌝ }
-{
-    Place {
-        x: a.y * b.z - a.z * b.y,
-        y: a.z * b.x - a.x * b.z,
-        z: a.x * b.y - a.y * b.x,
     }
 }
 

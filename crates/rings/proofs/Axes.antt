@@ -1,4 +1,5 @@
 -- A fold over the coordinates of a list's points on one axis, a point at a time: the coordinate of the point at 2 * k stands at 2 * k + skip.
+-- The least and the greatest of numbers as such folds.
 use mathlib.Core.Path.{_≡_, refl}
 use mathlib.Core.Bool.{Bool, true, false, cond}
 use mathlib.Core.List.{List, foldl, map}
@@ -6,10 +7,11 @@ use Prim.Native.Nat.{ℕ, _+_, _*_, _/_, _<_, _≤_}
 use native.Mathlib.Nat.{add-zero}
 use native.Mathlib.Omega.{arith}
 use lib.Dec.{eqb}
-use lib.Ieee.{Float}
+use lib.Ieee.{Float, inf}
 use lib.ListN.{length, getD, drop}
+use Rattle.leaves.specs.Bounds.{smallerOf, largerOf}
 use Rattle.sheet.specs.Content.{point, pairs}
-use Rattle.rings.specs.Bounds.{axisOf}
+use Rattle.rings.specs.Bounds.{axisOf, least, greatest}
 use Rattle.rings.proofs.Pairs.{pairs-step, pairs-end}
 
 abbrev pub skipOf : ℕ → ℕ
@@ -37,3 +39,12 @@ module _ (step : Float → Float → Float) (axis : ℕ) (xs : List Float) (k : 
 
   pub fold-end : length xs / 2 ≤ k → foldl step found (map (axisOf axis) (pairs (drop (2 * k) xs))) ≡ found
   fold-end h = rw (pairs-end xs k h)
+
+-- from infinity down, and from -infinity up
+pub least-fold : (xs : List Float) → foldl smallerOf (inf false) xs ≡ least xs
+unfolding least
+least-fold xs = refl
+
+pub greatest-fold : (xs : List Float) → foldl largerOf (inf true) xs ≡ greatest xs
+unfolding greatest
+greatest-fold xs = refl

@@ -6,12 +6,14 @@ use Prim.Native.Nat.{_*_, _-_, _/_, _<_}
 use native.Mathlib.Omega.{arith}
 use lib.Ieee.{Float, nan, binary64, sub}
 use lib.ListN.{length, getD}
+use Rattle.leaves.specs.Bounds.{exceedsOf}
+use Rattle.leaves.specs.Constants.{pi}
 use Rattle.sheet.specs.Content.{pairs}
-use Rattle.rings.specs.Bounds.{overPi, goesAround}
+use Rattle.rings.specs.Bounds.{goesAround}
 use Rattle.rings.proofs.Pairs.{pairs-step, pairs-end}
 use Rattle.rings.proofs.RingFolds.{last-point}
 
-pub around : (xs : List Float) → 0 < length xs / 2 → goesAround (pairs xs) ≡ overPi (sub binary64 (getD xs 0 nan) (getD xs (2 * (length xs / 2) - 2) nan))
+pub around : (xs : List Float) → 0 < length xs / 2 → goesAround (pairs xs) ≡ exceedsOf (sub binary64 (getD xs 0 nan) (getD xs (2 * (length xs / 2) - 2) nan)) pi
 unfolding goesAround
 around xs h =
     let e : 2 * (length xs / 2) - 2 ≡ 2 * (length xs / 2 - 1) = omega arith in

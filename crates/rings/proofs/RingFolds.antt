@@ -34,6 +34,16 @@ module _ {A S : Type 0} (step : S → Between A → S) where
     unfolding segmentsFrom
     rest-end s a e = ap (foldRest s a) e
 
+-- ---- the last of them, a step at a time
+
+pub last-none : {A : Type 0} {ps : List A} (p : A) → ps ≡ [] → lastOf p ps ≡ p
+unfolding lastOf
+last-none p e = ap (lastOf p) e
+
+pub last-next : {A : Type 0} {ps qs : List A} {q : A} (p : A) → ps ≡ q ∷ qs → lastOf p ps ≡ lastOf q qs
+unfolding lastOf
+last-next p e = ap (lastOf p) e
+
 -- ---- in a list of numbers
 
 abbrev pub pointAt : List Float → ℕ → Point

@@ -1,10 +1,10 @@
 -- Document 01, "Chart", rule 3, what it asks of points: "Box: least and greatest u and v", and of a ring: "first and last u differ by over PI".
-use mathlib.Core.Bool.{Bool, true, false, cond, _||_}
+use mathlib.Core.Bool.{Bool, true, false, cond}
 use mathlib.Core.List.{List, [], _∷_, foldl}
 use Prim.Native.Nat.{ℕ}
 use lib.Dec.{eqb}
-use lib.Ieee.{Float, inf, binary64, sub, neg, lt}
-use Rattle.leaves.specs.Bounds.{smallerOf, largerOf}
+use lib.Ieee.{Float, inf, binary64, sub}
+use Rattle.leaves.specs.Bounds.{smallerOf, largerOf, exceedsOf}
 use Rattle.leaves.specs.Constants.{pi}
 use Rattle.sheet.specs.Content.{Point}
 
@@ -18,17 +18,12 @@ greatest xs = foldl largerOf (inf true) xs
 unfoldable pub axisOf : ℕ → Point → Float
 axisOf axis p = cond (eqb axis 0) (p .u) (p .v)
 
--- the last of a point and those after it
-unfoldable pub lastOf : Point → List Point → Point
+-- the last of one and those after it
+unfoldable pub lastOf : {A : Type 0} → A → List A → A
 lastOf p [] = p
 lastOf p (q ∷ qs) = lastOf q qs
 
--- of magnitude over PI
-unfoldable pub overPi : Float → Bool
-unfolding lt neg
-overPi d = lt pi d || lt pi (neg d)
-
 unfoldable pub goesAround : List Point → Bool
-unfolding overPi lastOf sub
+unfolding lastOf sub
 goesAround [] = false
-goesAround (p ∷ ps) = overPi (sub binary64 (p .u) (lastOf p ps .u))
+goesAround (p ∷ ps) = exceedsOf (sub binary64 (p .u) (lastOf p ps .u)) pi

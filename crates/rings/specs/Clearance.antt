@@ -1,17 +1,14 @@
 -- Document 01, "Chart", rule 8: the distance of a point to a segment, and the least of them over a ring.
 use mathlib.Core.Bool.{Bool, true, false, cond}
 use mathlib.Core.List.{List, foldl}
-use lib.Ieee.{Float, binary64, ofBits, add, sub, mul, div, lt}
+use lib.Ieee.{Float, binary64, add, sub, mul, div, lt}
 use Rattle.leaves.specs.Bounds.{smallerOf, clampOf}
-use Rattle.leaves.specs.Constants.{zero}
+use Rattle.leaves.specs.Constants.{zero, one}
 use Rattle.leaves.specs.Hypot.{keyOf, hypotOf}
 use Rattle.sheet.specs.Content.{Point, point}
 use Rattle.rings.specs.Coverage.{gained, middle}
 use Rattle.rings.specs.Segments.{Between, Segment, segment, segments}
 use Rattle.rings.specs.Turns.{turns}
-
-abbrev pub one : Float
-one = ofBits binary64 0x3FF0000000000000
 
 -- ---- "Periodic: b moves as in 7, then both by round((p.u − (a.u + b.u)/2)/P) × P"
 

@@ -3,7 +3,7 @@ use leaves::constants::PI;
 ghost use mathlib.Core.Path.{_≡_};
 ghost use mathlib.Core.List.{map};
 ghost use Rattle.sheet.specs.Content.{pairs};
-ghost use Rattle.rings.specs.Bounds.{least as leastOf, greatest as greatestOf, axisOf, goesAround, overPi};
+ghost use Rattle.rings.specs.Bounds.{least as leastOf, greatest as greatestOf, axisOf, goesAround};
 
 // The least u of the points, or v at axis 1; infinity of no points.
 pub fn least(axis: usize, points: &[f64]) -> f64
@@ -35,12 +35,6 @@ pub fn greatest(axis: usize, points: &[f64]) -> f64
     found
 }
 
-fn over_pi(d: f64) -> bool
-    ensures { λ r. ⌜ r ≡ overPi d ⌝ }
-{
-    if PI < d { true } else { PI < -d }
-}
-
 // Whether the ring's first and last u differ by over PI.
 pub fn goes_around(ring: &[f64]) -> bool
     ensures { λ r. ⌜ r ≡ goesAround (pairs (now (ring .entry))) ⌝ }
@@ -49,5 +43,5 @@ pub fn goes_around(ring: &[f64]) -> bool
     if count == 0 {
         return false;
     }
-    over_pi(ring[0] - ring[2 * count - 2])
+    leaves::exceeds(ring[0] - ring[2 * count - 2], PI)
 }

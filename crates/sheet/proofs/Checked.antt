@@ -1,17 +1,21 @@
 -- The first check that fails, and what holds of a sheet on which none of the checks 1 to 7 does.
-use mathlib.Core.Path.{_≡_, refl}
-use mathlib.Core.Bool.{Bool, true, false, not, cond, _||_, true≢false}
+use mathlib.Core.Path.{_≡_, refl, sym, subst}
+use mathlib.Core.Bool.{Bool, true, false, not, cond, _&&_, _||_, true≢false}
 use mathlib.Core.List.{List, [], _∷_, _++_, map}
 use Prim.Native.Nat.{ℕ, _-_, _≤_, _<_}
 use native.Mathlib.Omega.{arith}
-use lib.Dec.{eqb, ltb}
+use lib.Dec.{T, eqb, ltb}
+use lib.Ieee.{Float, neg, le}
+use lib.Ieee.Fits.{and-l, and-r}
+use lib.Ieee.Scale.{finite}
 use lib.ListN.{length, drop}
 use borrow.Author.Tests.{ltb-false, eqb-true, eqb-false, not-false}
 use Rattle.leaves.proofs.Folds.{All, all-append}
+use Rattle.leaves.proofs.Order.{within-finite}
 use Rattle.sheet.specs.Content.{Coedge, Sheet}
 use Rattle.sheet.specs.Lists.{anyOf}
 use Rattle.sheet.specs.Layout.{lengthField, version, kind, sense, ringCount, headSize, plane, blocks, cut, ring, sheetOf}
-use Rattle.sheet.specs.Checks.{Check, first, lengthWrong, versionWrong, kindWrong, countWrong, fill, blocksWrong, empty, coedgeTotal, coedgesWrong, ringWrong, planeWrong, numbersWrong, layoutChecks, contentChecks}
+use Rattle.sheet.specs.Checks.{Check, first, beyond, lengthWrong, versionWrong, kindWrong, countWrong, fill, blocksWrong, empty, coedgeTotal, coedgesWrong, ringWrong, planeWrong, numbersWrong, layoutChecks, contentChecks}
 use Rattle.sheet.proofs.Permutations.{all-weaken}
 
 -- ---- tests
@@ -26,6 +30,15 @@ any-false test [] e = tt
 any-false test (x ∷ xs) e =
     let p = neither (test x) (anyOf test xs) e in
     (p .0, any-false test xs (p .1))
+
+-- what is not beyond a finite limit
+pub not-beyond-finite : (limit x : Float) → T (finite limit) → beyond limit x ≡ false → T (finite x)
+unfolding beyond
+not-beyond-finite limit x h e =
+    let above = le (neg limit) x in
+    let below = le x limit in
+    let both : T (above && below) = subst T (sym (not-false (above && below) e)) tt in
+    within-finite limit x h (and-l above below both) (and-r above below both)
 
 -- ---- the first check that fails
 
@@ -70,6 +83,15 @@ first-here c cs e = rw e
 pub first-later : (c : Check) (cs : List Check) → c .fails ≡ false → first (c ∷ cs) ≡ first cs
 unfolding first
 first-later c cs e = rw e
+
+pub first-most : (n : ℕ) (cs : List Check) → Within n cs → first cs ≤ n
+unfolding first
+first-most n [] h = omega arith
+first-most n (c ∷ cs) h = by (c .fails) (first-most n cs (h .1))
+  where
+    by : (b : Bool) → first cs ≤ n → cond b (c .number) (first cs) ≤ n
+    by true k = h .0
+    by false k = k
 
 -- the checks of xs come first
 after-none : (xs ys : List Check) → NoneFails xs → first (xs ++ ys) ≡ first ys

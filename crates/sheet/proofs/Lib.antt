@@ -10,6 +10,7 @@ pub mod Walks
 pub mod Planes
 -- the checks, and what holds of a sheet that passes them
 pub mod Checked
+pub mod Settled
 -- lists in another order, and a sheet's ring blocks in another order
 pub mod Permutations
 pub mod BlockOrder

@@ -1,7 +1,7 @@
 -- The walks, a step at a time: of what is left after k of n, the first is what stands at the place, and the rest is what is left after k + 1.
 use mathlib.Core.Path.{_≡_, refl, sym, ap, ap₂, _∙_}
 use mathlib.Core.Logic.{_⊎_, inl, inr}
-use mathlib.Core.Bool.{Bool, true, false, not, _&&_, _||_}
+use mathlib.Core.Bool.{Bool, true, false, not, _&&_, _||_, or-assoc, or-false}
 use mathlib.Core.List.{List, [], _∷_, map, foldl}
 use Prim.Native.Nat.{ℕ, zero, suc, _+_, _-_, _*_, _≤_, _<_}
 use native.Mathlib.Nat.{add-zero, eq-or-lt-of-le, mul-add, mul-one}
@@ -38,6 +38,21 @@ any-passed test {x = x} {rest = rest} e t = ap (anyOf test) e ∙ ap (λ (b : Bo
 pub any-none : {A : Type 0} (test : A → Bool) {l : List A} → l ≡ [] → anyOf test l ≡ false
 unfolding anyOf
 any-none test e = ap (anyOf test) e
+
+-- of two, and of three
+pub any-two : {A : Type 0} (test : A → Bool) (d : A) (xs : List A) → length xs ≡ 2 → anyOf test xs ≡ (test (getD xs 0 d) || test (getD xs 1 d))
+unfolding anyOf
+any-two test d [] e = absurd (omega arith)
+any-two test d (x ∷ []) e = absurd (omega arith)
+any-two test d (x ∷ y ∷ []) e = ap (λ (b : Bool). test x || b) (or-false (test y))
+any-two test d (x ∷ y ∷ z ∷ xs) e = absurd (omega arith)
+
+pub any-three : {A : Type 0} (test : A → Bool) (d : A) (xs : List A) → length xs ≡ 3 → anyOf test xs ≡ (test (getD xs 0 d) || test (getD xs 1 d) || test (getD xs 2 d))
+unfolding anyOf
+any-three test d [] e = absurd (omega arith)
+any-three test d (x ∷ xs) e =
+    ap (λ (b : Bool). test x || b) (any-two test d xs (omega arith))
+    ∙ sym (or-assoc (test x) (test (getD xs 0 d)) (test (getD xs 1 d)))
 
 -- ---- numbers and coedges, which stand in equal steps
 
@@ -86,10 +101,6 @@ any-point (suc n) s =
     ∙ or-assoc (beyond coordinateLimit (number s)) (beyond coordinateLimit (number (drop 8 s))) (anyOf (beyond coordinateLimit) (numbers (2 * n) (drop 8 (drop 8 s))))
     ∙ ap (λ (m : ℕ). anyOf (beyond coordinateLimit) (numbers m s)) (two-more n)
   where
-    or-assoc : (a b c : Bool) → ((a || b) || c) ≡ (a || (b || c))
-    or-assoc true b c = refl
-    or-assoc false b c = refl
-
     two-more : (n : ℕ) → suc (suc (2 * n)) ≡ 2 * suc n
     two-more n = omega arith
 

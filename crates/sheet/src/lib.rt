@@ -19,4 +19,6 @@ pub use fields::block_size;
 pub use fields::byte_at;
 pub use fields::head_size;
 pub use fields::number;
+pub use walk::COORDINATE_LIMIT;
+pub use walk::any_number_beyond;
 pub use walk::is_beyond;

@@ -18,7 +18,7 @@ ghost use Rattle.sheet.specs.Layout.{ring, cut, coedge, numbers};
 ghost use Rattle.sheet.specs.Checks.{fill, beyond, coedgeWrong, ringWrong, coedgesWrong};
 
 // 2^20, for a chart coordinate or the origin.
-pub(crate) const COORDINATE_LIMIT: f64 = 1048576.0;
+pub const COORDINATE_LIMIT: f64 = 1048576.0;
 
 // Of magnitude above the limit, infinite, or a NaN.
 pub fn is_beyond(limit: f64, x: f64) -> bool
@@ -35,6 +35,20 @@ pub(crate) fn any_beyond(limit: f64, s: &[u8], from: usize, count: usize) -> boo
     let mut k = 0;
     while k < count {
         if is_beyond(limit, number(s, from + 8 * k)) {
+            return true;
+        }
+        k += 1;
+    }
+    false
+}
+
+// Whether any number of a list is beyond the limit.
+pub fn any_number_beyond(limit: f64, list: &[f64]) -> bool
+    ensures { λ r. ⌜ r ≡ anyOf (beyond limit) (now (list .entry)) ⌝ }
+{
+    let mut k = 0;
+    while k < list.len() {
+        if is_beyond(limit, list[k]) {
             return true;
         }
         k += 1;

@@ -1,15 +1,15 @@
--- `leaves::turning::turn` is `turnOf`: the two arms are the two of `lifted`.
-use Rattle.leaves.specs.Turn.{lifted, turnOf}
+-- `leaves::turning::turn` is `turnOf`: the remainder by a turn, less PI.
+use borrow.Author.Needs.{needs}
+use Rattle.leaves.specs.Turn.{turnOf}
 use Rattle.leaves.proofs.turning.turn.Statement.{statement}
 use Rattle.leaves.proofs.turning.turn.Tie as tie
 
-returns : tie.Need-returns
-unfolding turnOf lifted
-returns c = rw (c .if1 .taken)
+rem-tau-requires : tie.Need-rem-tau-requires
+rem-tau-requires c κs = search needs
 
-returns-2 : tie.Need-returns-2
-unfolding turnOf lifted
-returns-2 c = rw (c .if1 .left)
+returns : tie.Need-returns
+unfolding turnOf
+returns c = rw (c .rem-tau .ensures)
 
 pub turn-spec : {M : Type 1} → statement M
-turn-spec = tie.close (tie.spec returns returns-2)
+turn-spec = tie.close (tie.spec rem-tau-requires returns)

@@ -7,13 +7,13 @@ use native.Mathlib.Omega.{arith}
 use lib.Ieee.{Float}
 use lib.ListN.{length}
 use borrow.Author.Needs.{needs}
+use Rattle.space.specs.declared.vectors.Place.{Place}
 use Rattle.sheet.specs.Content.{Point, pairs}
 use Rattle.sheet.specs.Layout.{sheetOf}
 use Rattle.chart.specs.Chart.{pointCount}
 use Rattle.picker.specs.Images.{ringImages}
 use Rattle.picker.specs.PlanePick.{onAxes, onPlane}
 use Rattle.picker.specs.Physical.{closing}
-use Rattle.picker.specs.declared.space.Place.{Place}
 use Rattle.picker.proofs.Calling.{read-layout, planar-kind}
 use Rattle.picker.proofs.OnPlane.{plane-axes, same-images, images-length}
 use Rattle.picker.proofs.call.answer_on.Statement.{statement}

@@ -1,6 +1,6 @@
 -- `picker::call::image_over` meets its contract: a refusal of the chart is the pick's, and where it answers, the last image and the chosen point's clearance and count are.
 use mathlib.Core.Path.{_∙_}
-use Prim.Native.Nat.{_+_, _*_, _-_, _≤_, _<_}
+use Prim.Native.Nat.{_*_, _-_, _≤_}
 use native.Mathlib.Omega.{arith}
 use lib.ListN.{length}
 use borrow.Author.Needs.{needs}
@@ -23,10 +23,7 @@ sub-place-at : tie.Need-sub-place-at
 sub-place-at c = omega (arith, images-long (c .before .before .before .before .before .before .before .before .before .before .pre .0))
 
 place-at-requires : tie.Need-place-at-requires
-place-at-requires c κs =
-    let a = c .before .before .before .before .before .before .before .before .before .before in
-    let h : length (a .args .images .now) - 3 + 2 < length (a .args .images .now) = omega (arith, images-long (a .pre .0)) in
-    h
+place-at-requires c κs = search needs
 
 answer-at-requires : tie.Need-answer-at-requires
 answer-at-requires c κs =

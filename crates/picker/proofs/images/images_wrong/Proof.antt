@@ -44,16 +44,16 @@ returns c =
     let x = n .before .before .before .args in
     sym (wrong-length (sheetOf (x .s .now)) (x .images .now) (n .point-numbers .result) (n .point-numbers .ensures) (c .if1 .taken))
 
-any-beyond-requires : tie.Need-any-beyond-requires
-any-beyond-requires c κs = search needs
+any-number-beyond-requires : tie.Need-any-number-beyond-requires
+any-number-beyond-requires c κs = search needs
 
 returns-2 : tie.Need-returns-2
 returns-2 c =
     let n = c .before .before in
     let x = n .before .before .before .args in
-    c .any-beyond .ensures ∙ sym (right-length (sheetOf (x .s .now)) (x .images .now) (n .point-numbers .result) (n .point-numbers .ensures) (c .before .if1 .left))
+    c .any-number-beyond .ensures ∙ sym (right-length (sheetOf (x .s .now)) (x .images .now) (n .point-numbers .result) (n .point-numbers .ensures) (c .before .if1 .left))
 
 pub images-wrong-spec : {M : Type 1} → statement M
 images-wrong-spec =
     tie.close
-    (tie.spec point-numbers-requires add-if1 mul-if1 returns any-beyond-requires returns-2)
+    (tie.spec point-numbers-requires add-if1 mul-if1 returns any-number-beyond-requires returns-2)

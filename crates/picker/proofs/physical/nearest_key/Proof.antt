@@ -11,6 +11,8 @@ use lib.ListN.{length, getD, take, drop}
 use lib.Seq.{drop-drop, getD-drop}
 use borrow.Author.Needs.{needs}
 use Rattle.leaves.proofs.ConstantBits.{infinity-bits}
+use Rattle.space.specs.Places.{triples}
+use Rattle.space.specs.declared.vectors.Place.{Place}
 use Rattle.sheet.specs.Content.{Coedge}
 use Rattle.sheet.specs.Layout.{headSize, kind, blockSize, cut, ring, sheetOf}
 use Rattle.sheet.proofs.Blocks.{block-size-at, first-byte, ring-points-length}
@@ -18,9 +20,8 @@ use Rattle.sheet.proofs.Checked.{head-size-most, rings-are}
 use Rattle.sheet.proofs.Walks.{rings-step, rings-end}
 use Rattle.rings.specs.Clearance.{leastOf}
 use Rattle.chart.proofs.Counting.{pointsIn, points-step, count-of-blocks}
-use Rattle.picker.specs.Images.{triples, imageNumbers, ringImages}
+use Rattle.picker.specs.Images.{imageNumbers, ringImages}
 use Rattle.picker.specs.Space.{segmentKey}
-use Rattle.picker.specs.declared.space.Place.{Place}
 use Rattle.picker.proofs.physical.nearest_key.Statement.{statement}
 use Rattle.picker.proofs.physical.nearest_key.Tie as tie
 

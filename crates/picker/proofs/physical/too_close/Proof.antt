@@ -8,13 +8,13 @@ use Rattle.leaves.specs.Bounds.{largerOf}
 use Rattle.leaves.specs.Constants.{physicalLimit}
 use Rattle.leaves.specs.Hypot.{hypotOfKey}
 use Rattle.leaves.proofs.ConstantBits.{physicalLimit-bits}
+use Rattle.space.specs.declared.vectors.Place.{Place}
 use Rattle.sheet.specs.Content.{Sheet}
 use Rattle.sheet.specs.Layout.{sheetOf}
 use Rattle.rings.specs.Clearance.{leastOf}
 use Rattle.picker.specs.Images.{ringImages}
 use Rattle.picker.specs.Physical.{greatestDeviation, eight, physicalLeast, tooClose}
 use Rattle.picker.specs.Space.{segmentKey}
-use Rattle.picker.specs.declared.space.Place.{Place}
 use Rattle.picker.proofs.Nearness.{physical-by-key}
 use Rattle.picker.proofs.physical.too_close.Statement.{statement}
 use Rattle.picker.proofs.physical.too_close.Tie as tie

@@ -10,36 +10,36 @@ use Rattle.rings.proofs.bounds.goes_around.Tie as tie
 returns : tie.Need-returns
 returns c = sym (no-points-around (now (c .before .before .args .ring)) (omega arith))
 
-shared-slice-read-over-pi : tie.Need-shared-slice-read-over-pi
-shared-slice-read-over-pi c = search needs
+shared-slice-read-exceeds : tie.Need-shared-slice-read-exceeds
+shared-slice-read-exceeds c = search needs
 
-mul-over-pi : tie.Need-mul-over-pi
-mul-over-pi c = search needs
+mul-exceeds : tie.Need-mul-exceeds
+mul-exceeds c = search needs
 
-sub-over-pi : tie.Need-sub-over-pi
-sub-over-pi c = search needs
+sub-exceeds : tie.Need-sub-exceeds
+sub-exceeds c = search needs
 
-mul-over-pi-2 : tie.Need-mul-over-pi-2
-mul-over-pi-2 c = search needs
+mul-exceeds-2 : tie.Need-mul-exceeds-2
+mul-exceeds-2 c = search needs
 
-shared-slice-read-over-pi-2 : tie.Need-shared-slice-read-over-pi-2
-shared-slice-read-over-pi-2 c = search needs
+shared-slice-read-exceeds-2 : tie.Need-shared-slice-read-exceeds-2
+shared-slice-read-exceeds-2 c = search needs
 
-over-pi-requires : tie.Need-over-pi-requires
-over-pi-requires c κs = search needs
+exceeds-requires : tie.Need-exceeds-requires
+exceeds-requires c κs = search needs
 
 returns-2 : tie.Need-returns-2
-returns-2 c = c .over-pi .ensures ∙ sym (around (now (c .before .before .before .before .before .args .ring)) (omega arith))
+returns-2 c = c .exceeds .ensures ∙ sym (around (now (c .before .before .before .before .before .args .ring)) (omega arith))
 
 pub goes-around-spec : {M : Type 1} → statement M
 goes-around-spec =
     tie.close
     (tie.spec
     returns
-    shared-slice-read-over-pi
-    mul-over-pi
-    sub-over-pi
-    mul-over-pi-2
-    shared-slice-read-over-pi-2
-    over-pi-requires
+    shared-slice-read-exceeds
+    mul-exceeds
+    sub-exceeds
+    mul-exceeds-2
+    shared-slice-read-exceeds-2
+    exceeds-requires
     returns-2)

@@ -1,0 +1,21 @@
+-- Document 01, "With a refusal all other result numbers are 0": the paper's six numbers of a call's outcome, the status and the five that stand beside it.
+use mathlib.Core.Bool.{cond}
+use Prim.Native.Nat.{ℕ}
+use lib.Dec.{eqb}
+use lib.Ieee.{Float}
+use Rattle.leaves.specs.Constants.{zero}
+
+pub record Numbers : Type 0 where
+  pub status : ℕ
+  pub x : Float
+  pub y : Float
+  pub z : Float
+  pub clearance : Float
+  pub count : ℕ
+
+abbrev pub refused : ℕ → Numbers
+refused n = record { status = n; x = zero; y = zero; z = zero; clearance = zero; count = 0 }
+
+-- the answer's numbers where no check fails, else those of the first that does
+unfoldable pub settled : ℕ → Numbers → Numbers
+settled refusal numbers = cond (eqb refusal 0) numbers (refused refusal)
