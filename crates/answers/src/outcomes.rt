@@ -1,0 +1,26 @@
+// The outcomes: what a call answers, or a refusal's number. The paper's six numbers for either are the
+// definitions of specs/Answers.antt.
+
+// A parameter of a curve.
+pub enum ParameterAnswer {
+    Parameter(f64),
+    Refused(u32),
+}
+
+// Whether to reverse a coedge's points, and whether to keep them.
+pub enum DirectionAnswer {
+    Direction(bool, bool),
+    Refused(u32),
+}
+
+// Three coordinates.
+pub enum PositionAnswer {
+    Position(f64, f64, f64),
+    Refused(u32),
+}
+
+// The middle of a round face: angle and height.
+pub enum MiddleAnswer {
+    Middle(f64, f64),
+    Refused(u32),
+}

@@ -1,0 +1,72 @@
+-- "With a refusal all other result numbers are 0", of the calls but the round fallback: a call whose status is not 0 answers nothing but its status, and its status is a number of its table.
+use mathlib.Core.Path.{_≡_, refl}
+use mathlib.Core.List.{List}
+use Prim.Native.Nat.{ℕ, _≤_}
+use native.Mathlib.Omega.{arith}
+use lib.Ieee.{Float}
+use Rattle.space.specs.Places.{triples, placeAt}
+use Rattle.space.specs.Vectors.{crossOf}
+use Rattle.space.specs.declared.vectors.Place.{Place}
+use Rattle.sheet.specs.Checks.{Check, first}
+use Rattle.sheet.specs.Outcome.{refused, settled}
+use Rattle.sheet.proofs.Checked.{Within, first-most}
+use Rattle.sheet.proofs.Settled.{settled-zeros, settled-most}
+use Rattle.answers.specs.Answers.{valued}
+use Rattle.fallbacks.specs.Sample.{sampleParameterOf}
+use Rattle.fallbacks.specs.Direction.{directionOf}
+use Rattle.fallbacks.specs.Vertices.{pointAmong, pointOnOf}
+use Rattle.fallbacks.specs.Placed.{placedOf}
+use Rattle.fallbacks.proofs.Corners.{among-status, among-zeros}
+
+-- ---- a table before three values
+
+module _ (checks : List Check) (x y z : Float) where
+  table-refused : (settled (first checks) (valued x y z) .status ≡ 0 → ⊥) → settled (first checks) (valued x y z) ≡ refused (settled (first checks) (valued x y z) .status)
+  table-refused = settled-zeros (first checks) (valued x y z) (λ h. absurd (h refl))
+
+  table-status : (most : ℕ) → Within most checks → settled (first checks) (valued x y z) .status ≤ most
+  table-status most h = settled-most most (first checks) (valued x y z) (first-most most checks h) (omega arith)
+
+-- ---- the calls
+
+module _ (a b : Float) (n : ℕ) where
+  pub sample-parameter-refused : (sampleParameterOf a b n .status ≡ 0 → ⊥) → sampleParameterOf a b n ≡ refused (sampleParameterOf a b n .status)
+  unfolding sampleParameterOf
+  sample-parameter-refused = table-refused _ _ _ _
+
+  pub sample-parameter-status : sampleParameterOf a b n .status ≤ 16
+  unfolding sampleParameterOf
+  sample-parameter-status = table-status _ _ _ _ 16 (omega arith, tt)
+
+module _ (points : List Float) where
+  pub direction-refused : (directionOf points .status ≡ 0 → ⊥) → directionOf points ≡ refused (directionOf points .status)
+  unfolding directionOf
+  direction-refused = table-refused _ _ _ _
+
+  pub direction-status : directionOf points .status ≤ 16
+  unfolding directionOf
+  direction-status = table-status _ _ _ _ 16 (omega arith, tt)
+
+module _ (uAxis normal corners : List Float) where
+  abbrev u : Place
+  u = placeAt uAxis 0
+
+  abbrev v : Place
+  v = crossOf (placeAt normal 0) u
+
+  pub point-on-refused : (pointOnOf uAxis normal corners .status ≡ 0 → ⊥) → pointOnOf uAxis normal corners ≡ refused (pointOnOf uAxis normal corners .status)
+  unfolding pointOnOf
+  point-on-refused = settled-zeros _ (pointAmong u v (triples corners)) (among-zeros u v (triples corners))
+
+  pub point-on-status : pointOnOf uAxis normal corners .status ≤ 21
+  unfolding pointOnOf
+  point-on-status = settled-most 21 _ (pointAmong u v (triples corners)) (first-most 21 _ (omega arith, (omega arith, tt))) (among-status u v (triples corners))
+
+module _ (transform point : List Float) where
+  pub placed-refused : (placedOf transform point .status ≡ 0 → ⊥) → placedOf transform point ≡ refused (placedOf transform point .status)
+  unfolding placedOf
+  placed-refused = table-refused _ _ _ _
+
+  pub placed-status : placedOf transform point .status ≤ 24
+  unfolding placedOf
+  placed-status = table-status _ _ _ _ 24 (omega arith, (omega arith, tt))
