@@ -1,5 +1,6 @@
 /*
- * facepoint: a point inside a trimmed face, over the C convention.
+ * facepoint: a point inside a trimmed face, and what is asked beside it, over the
+ * C convention.
  *
  * The archive is target/staticlib/libcapi.a (`rt staticlib capi`), for x86-64
  * Linux; it calls the C library's fmod (-lm). It takes no memory from the heap,
@@ -11,10 +12,11 @@
  * A pointer may not be null, even where the number is 0. Lists of one call must
  * not overlap, save two that are only read.
  *
- * A call returns its status: 0 for a point, else the number of a refusal. The
+ * A call returns its status: 0 for an answer, else the number of a refusal. The
  * other five numbers go into `result`, which has room for five: x, y, z,
- * clearance, count (a whole number). With a refusal all five are 0, and `points`
- * is left as it was. Where result_length is not 5 the call returns 1 at once and
+ * clearance, count (a whole number); what a call after the picker answers stands
+ * beside it, and the rest is 0. With a refusal all five are 0, and `points` is
+ * left as it was. Where result_length is not 5 the call returns 1 at once and
  * writes nothing at all.
  *
  * Refusals, in the order in which they are tested ('any ring' where a ring is
@@ -40,6 +42,26 @@
  *   14  no covered grid point with a clearance above 0.01
  *   15  picks: the clearance in space is not above the larger of 8 x the greatest
  *       deviation and 1e-7
+ *
+ * Of the calls after the picker; every number of a call is looked at before
+ * anything else, however long its lists:
+ *
+ *   16  a number that is not finite; in the triangle and both fallbacks also one
+ *       above 2^20 in magnitude; a list of another length than the call's, n above
+ *       16, a radius not above 0, a sense above 2, a flag other than 0 and 1
+ *   17  triangle: a circle's centre or radius off by more than radius x 1e-6; a
+ *       sweep above PI; an evaluated end off its end, or an end off the sphere, by
+ *       more than radius x 1e-5; an end at most 1e-9 from the centre
+ *   18  triangle: a side's end direction more than 1e-5 from the next's start
+ *   19  triangle: no middle direction, sense 0, or a side whose triple product
+ *       with the middle, by the sense's sign, is 1e-6 or less
+ *   20  point_on: corners_length not a multiple of 3; fewer than 3 corners, or more
+ *       than 128
+ *   21  point_on: no three neighbouring corners serve
+ *   22  cylinder_point: no heights; more than 256 heights or angles; heights that
+ *       spread by 1e-6 or less
+ *   23  cylinder_point: the middle is unclear, or there are no angles
+ *   24  placed: the result is not finite
  */
 #ifndef FACEPOINT_H
 #define FACEPOINT_H
@@ -53,6 +75,11 @@ extern "C" {
 
 /* The number of result numbers: x, y, z, clearance, count. */
 #define FACEPOINT_RESULT_LENGTH 5
+
+/* The lengths of lists that have but one. */
+#define FACEPOINT_POINTS_LENGTH 12
+#define FACEPOINT_SIDE_LENGTH 19
+#define FACEPOINT_TRANSFORM_LENGTH 12
 
 /*
  * The chart of a sheet at phase 0 or 1: the chosen point as u, v, 0, with its
@@ -77,6 +104,62 @@ uint32_t facepoint_image_pick(const uint8_t *sheet, size_t sheet_length,
 /* The pick on a plane, whose numbers are on the sheet; phase 0. */
 uint32_t facepoint_plane_pick(const uint8_t *sheet, size_t sheet_length,
                               double *result, size_t result_length);
+
+/*
+ * The n-th of an edge's samples, n from 0 to 16, on the range from a to b: n = 0
+ * gives a itself and n = 16 b. Answers the parameter.
+ */
+uint32_t facepoint_sample_parameter(double a, double b, uint32_t n,
+                                    double *result, size_t result_length);
+
+/*
+ * Whether a trim is to be reversed and whether it is to be kept, from the images
+ * of its first and its last point and the edge's start and end: `points` are these
+ * four, x, y and z each. Answers reverse and keep, 1 or 0 each: reverse where the
+ * last image is nearer to the start than the first, keep where both ends then lie
+ * nearer than 1e-4.
+ */
+uint32_t facepoint_direction(const double *points, size_t points_length,
+                             double *result, size_t result_length);
+
+/*
+ * The middle of a triangle of great circles on a sphere, as x, y, z. Sense: 0
+ * absent, 1 forward, 2 reversed. `sides` are three sides of 19 numbers each: the
+ * edge's two ends (x, y and z each, before any reversal), 1 where the side is
+ * walked against its edge and else 0, the circle's centre (x, y, z) and radius, the
+ * two ends of the range, the curve evaluated at these (x, y and z each).
+ */
+uint32_t facepoint_spherical_triangle(const double *centre, size_t centre_length,
+                                      double radius, uint32_t sense,
+                                      const double *sides, size_t sides_length,
+                                      double *result, size_t result_length);
+
+/*
+ * The vertex fallback: a point inside a plane face, as x, y, z, from its corners,
+ * x, y and z each. It is the middle of the first corner that serves with the one
+ * before and the one after it.
+ */
+uint32_t facepoint_point_on(const double *u_axis, size_t u_axis_length,
+                            const double *normal, size_t normal_length,
+                            const double *corners, size_t corners_length,
+                            double *result, size_t result_length);
+
+/*
+ * The round fallback: middle angle and middle height of a face on a cylinder or a
+ * cone, from the heights and angles of its corners. The angle is not reduced: it
+ * may be above a turn.
+ */
+uint32_t facepoint_cylinder_point(const double *heights, size_t heights_length,
+                                  const double *angles, size_t angles_length,
+                                  double *result, size_t result_length);
+
+/*
+ * A point moved by a transform, as x, y, z: three rows of four numbers each, the
+ * last of a row the translation.
+ */
+uint32_t facepoint_placed(const double *transform, size_t transform_length,
+                          const double *point, size_t point_length,
+                          double *result, size_t result_length);
 
 /* The IEEE 754 square root, nearest, ties to even. */
 double facepoint_root(double x);

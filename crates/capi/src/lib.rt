@@ -2,14 +2,25 @@
 // target/staticlib/libcapi.a (`rt staticlib capi`). Names carry the prefix facepoint_, since `round`
 // and `hypot` alone would clash with the C library's. A slice goes as a pointer and the number of its
 // elements.
+mod outcomes;
 mod result;
 
+use crate::outcomes::of_direction;
+use crate::outcomes::of_middle;
+use crate::outcomes::of_parameter;
+use crate::outcomes::of_position;
 use crate::result::RESULT_LENGTH;
 use crate::result::put;
 ghost use mathlib.Core.Path.{_≡_};
 ghost use Rattle.leaves.specs.Root.{rootOf};
 ghost use Rattle.leaves.specs.Round.{roundOf};
-ghost use Rattle.capi.specs.Convention.{returned, seen, chartSeen, imagePickReturned, planePickReturned};
+ghost use Rattle.fallbacks.specs.Cylinder.{cylinderPointOf};
+ghost use Rattle.fallbacks.specs.Direction.{directionOf};
+ghost use Rattle.fallbacks.specs.Placed.{placedOf};
+ghost use Rattle.fallbacks.specs.Sample.{sampleParameterOf};
+ghost use Rattle.fallbacks.specs.Vertices.{pointOnOf};
+ghost use Rattle.triangle.specs.Lists.{triangleListsOf};
+ghost use Rattle.capi.specs.Convention.{returned, returnedOf, seen, chartSeen, imagePickReturned, planePickReturned};
 
 // The chart call: the status returned, the five numbers in `result`, the moved points in `points`.
 #[no_mangle]
@@ -52,6 +63,96 @@ pub extern "C" fn facepoint_plane_pick(sheet: &[u8], result: &mut [f64]) -> u32
         return 1;
     }
     put(picker::plane_pick(sheet), result)
+}
+
+// A curve's nth parameter of 0 to 16 between a and b: the parameter.
+#[no_mangle]
+pub extern "C" fn facepoint_sample_parameter(a: f64, b: f64, n: u32, result: &mut [f64]) -> u32
+    ensures { λ r. ⌜ returned r (now (result .exit)) ≡ returnedOf (sampleParameterOf a b n) (now (result .entry)) ⌝ }
+{
+    if result.len() != RESULT_LENGTH {
+        return 1;
+    }
+    put(of_parameter(fallbacks::sample_parameter(a, b, n)), result)
+}
+
+// The direction test of twelve numbers, first image, last image, start, end: reverse, keep.
+#[no_mangle]
+pub extern "C" fn facepoint_direction(points: &[f64], result: &mut [f64]) -> u32
+    ensures { λ r. ⌜ returned r (now (result .exit)) ≡ returnedOf (directionOf (now (points .entry))) (now (result .entry)) ⌝ }
+{
+    if result.len() != RESULT_LENGTH {
+        return 1;
+    }
+    put(of_direction(fallbacks::edge_direction(points)), result)
+}
+
+// The triangle on a sphere, of three numbers and of nineteen a side: x, y, z.
+#[no_mangle]
+pub extern "C" fn facepoint_spherical_triangle(
+    centre: &[f64],
+    radius: f64,
+    sense: u32,
+    sides: &[f64],
+    result: &mut [f64],
+) -> u32
+    ensures { λ r. ⌜ returned r (now (result .exit)) ≡ returnedOf (triangleListsOf (now (centre .entry)) radius sense (now (sides .entry))) (now (result .entry)) ⌝ }
+{
+    if result.len() != RESULT_LENGTH {
+        return 1;
+    }
+    put(
+        of_position(triangle::spherical_triangle_of(centre, radius, sense, sides)),
+        result,
+    )
+}
+
+// The vertex fallback, of three numbers, three numbers and three a corner: x, y, z.
+#[no_mangle]
+pub extern "C" fn facepoint_point_on(
+    u_axis: &[f64],
+    normal: &[f64],
+    corners: &[f64],
+    result: &mut [f64],
+) -> u32
+    ensures { λ r. ⌜ returned r (now (result .exit)) ≡ returnedOf (pointOnOf (now («u_axis» .entry)) (now (normal .entry)) (now (corners .entry))) (now (result .entry)) ⌝ }
+{
+    if result.len() != RESULT_LENGTH {
+        return 1;
+    }
+    put(
+        of_position(fallbacks::point_on(u_axis, normal, corners)),
+        result,
+    )
+}
+
+// The round fallback: the middle angle, the middle height.
+#[no_mangle]
+pub extern "C" fn facepoint_cylinder_point(
+    heights: &[f64],
+    angles: &[f64],
+    result: &mut [f64],
+) -> u32
+    ensures { λ r. ⌜ returned r (now (result .exit)) ≡ returnedOf (cylinderPointOf (now (heights .entry)) (now (angles .entry))) (now (result .entry)) ⌝ }
+{
+    if result.len() != RESULT_LENGTH {
+        return 1;
+    }
+    put(
+        of_middle(fallbacks::cylinder_point(heights, angles)),
+        result,
+    )
+}
+
+// A point by a transform of twelve numbers, row by row: x, y, z.
+#[no_mangle]
+pub extern "C" fn facepoint_placed(transform: &[f64], point: &[f64], result: &mut [f64]) -> u32
+    ensures { λ r. ⌜ returned r (now (result .exit)) ≡ returnedOf (placedOf (now (transform .entry)) (now (point .entry))) (now (result .entry)) ⌝ }
+{
+    if result.len() != RESULT_LENGTH {
+        return 1;
+    }
+    put(of_position(fallbacks::placed(transform, point)), result)
 }
 
 // The IEEE 754 square root: double facepoint_root(double).

@@ -1,9 +1,25 @@
-// Replays the recorded calls of data/, a file for each of the three, and counts the answers that differ from
-// the record. A record is the sheet's length, the phase and the list's length (u32 each), the sheet, and then
-// what the call leaves: status (u32), x, y, z and clearance (f64), count (u32), and every place of the list
-// (f64), all big-endian. The list is the chart's output or image pick's images; plane pick has none.
-// rust/oracle made the files (make_replay). A missing file leaves no line, and a file that is cut off or
-// broken has one wrong answer more.
+// Replays the recorded calls of data/, a file for each of the nine, and counts the answers that differ from
+// the record. A record is the size of its front, a whole number and the list's length (u32 each), the front,
+// and then what the call leaves: status (u32), x, y, z and clearance (f64), count (u32), and every place of
+// the list (f64), all big-endian. The front is the sheet and the whole number the phase, and the list is the
+// chart's output or image pick's images; plane pick has none. A call after the picker has its numbers (f64)
+// in front and list:
+//
+// | call | front | whole number | list |
+// |---|---|---|---|
+// | sample_parameter | | n | a, b |
+// | direction | | | points |
+// | spherical_triangle | centre | sense | radius, then sides |
+// | point_on | u axis, then normal | length of the u axis | corners |
+// | cylinder_point | heights | | angles |
+// | placed | transform | | point |
+//
+// rust/oracle made the files (make_replay, make_replay_after). A missing file leaves no line, and a file that
+// is cut off or broken has one wrong answer more.
+use answers::DirectionAnswer;
+use answers::MiddleAnswer;
+use answers::ParameterAnswer;
+use answers::PositionAnswer;
 use cases::HEAD_SIZE;
 use cases::Head;
 use cases::UNWRITTEN;
@@ -20,11 +36,20 @@ ghost use Rattle.replay.specs.Recorded.{recorded};
 // A proved loop has to end: this is more than a file has.
 const MOST_RECORDS: u64 = 100000;
 
+// The longest front of a call after the picker.
+const MOST_FRONT: usize = 1024;
+
 // The call that a file's records are of.
 enum Call {
     Chart,
     ImagePick,
     PlanePick,
+    SampleParameter,
+    Direction,
+    SphericalTriangle,
+    PointOn,
+    CylinderPoint,
+    Placed,
 }
 
 // What the next record showed: a point or a refusal, and whether it is the record's.
@@ -85,6 +110,114 @@ fn compared(result: Answer, list_right: bool, answer: &[u8; 40]) -> Outcome {
     }
 }
 
+// The like of a call after the picker, whose values come first.
+fn compared_position(result: PositionAnswer, answer: &[u8; 40]) -> Outcome {
+    match result {
+        PositionAnswer::Position(x, y, z) => {
+            Outcome::Point(is_recorded(answer, 0, x, y, z, 0.0, 0))
+        }
+        PositionAnswer::Refused(number) => {
+            Outcome::Refusal(is_recorded(answer, number, 0.0, 0.0, 0.0, 0.0, 0))
+        }
+    }
+}
+
+fn compared_parameter(result: ParameterAnswer, answer: &[u8; 40]) -> Outcome {
+    match result {
+        ParameterAnswer::Parameter(t) => Outcome::Point(is_recorded(
+            answer,
+            0,
+            t,
+            0.0,
+            0.0,
+            0.0,
+            0,
+        )),
+        ParameterAnswer::Refused(number) => {
+            Outcome::Refusal(is_recorded(answer, number, 0.0, 0.0, 0.0, 0.0, 0))
+        }
+    }
+}
+
+fn yes(b: bool) -> f64 {
+    if b { 1.0 } else { 0.0 }
+}
+
+fn compared_direction(result: DirectionAnswer, answer: &[u8; 40]) -> Outcome {
+    match result {
+        DirectionAnswer::Direction(reverse, keep) => {
+            Outcome::Point(is_recorded(answer, 0, yes(reverse), yes(keep), 0.0, 0.0, 0))
+        }
+        DirectionAnswer::Refused(number) => {
+            Outcome::Refusal(is_recorded(answer, number, 0.0, 0.0, 0.0, 0.0, 0))
+        }
+    }
+}
+
+fn compared_middle(result: MiddleAnswer, answer: &[u8; 40]) -> Outcome {
+    match result {
+        MiddleAnswer::Middle(angle, height) => {
+            Outcome::Point(is_recorded(answer, 0, angle, height, 0.0, 0.0, 0))
+        }
+        MiddleAnswer::Refused(number) => {
+            Outcome::Refusal(is_recorded(answer, number, 0.0, 0.0, 0.0, 0.0, 0))
+        }
+    }
+}
+
+// Makes a call after the picker and compares. A list that is too short to hold the call's numbers is broken.
+fn judge_after(call: Call, front: &[f64], whole: u32, list: &[f64], answer: &[u8; 40]) -> Outcome {
+    match call {
+        Call::SampleParameter => {
+            if list.len() != 2 {
+                return Outcome::Broken;
+            }
+            compared_parameter(fallbacks::sample_parameter(list[0], list[1], whole), answer)
+        }
+        Call::Direction => compared_direction(fallbacks::edge_direction(list), answer),
+        Call::SphericalTriangle => {
+            if list.len() == 0 {
+                return Outcome::Broken;
+            }
+            let result = triangle::spherical_triangle_of(front, list[0], whole, &list[1..]);
+            compared_position(result, answer)
+        }
+        Call::PointOn => {
+            let n = whole as usize;
+            if front.len() < n {
+                return Outcome::Broken;
+            }
+            compared_position(fallbacks::point_on(&front[..n], &front[n..], list), answer)
+        }
+        Call::CylinderPoint => compared_middle(fallbacks::cylinder_point(front, list), answer),
+        Call::Placed => compared_position(fallbacks::placed(front, list), answer),
+        _ => Outcome::Broken,
+    }
+}
+
+// Loads the numbers of a call's front, eight bytes each, and makes the call.
+fn run_front(
+    call: Call,
+    bytes: &[u8],
+    whole: u32,
+    front: &mut [f64],
+    list: &[f64],
+    answer: &[u8; 40],
+) -> Outcome {
+    cases::load(front, bytes);
+    judge_after(call, front, whole, list, answer)
+}
+
+// Lends a call after the picker room for the numbers of its front.
+fn lend_front(call: Call, bytes: &[u8], whole: u32, list: &[f64], answer: &[u8; 40]) -> Outcome {
+    let n = bytes.len() / 8;
+    if MOST_FRONT < n {
+        return Outcome::Broken;
+    }
+    let mut front = [0.0f64; MOST_FRONT];
+    run_front(call, bytes, whole, &mut front[..n], list, answer)
+}
+
 // Makes the call and compares. Only the chart can write its list.
 fn judge(
     call: Call,
@@ -105,6 +238,10 @@ fn judge(
             compared(picker::image_pick(sheet, phase, list), true, answer)
         }
         Call::PlanePick => compared(picker::plane_pick(sheet), true, answer),
+        _ => {
+            cases::load(list, numbers);
+            lend_front(call, sheet, phase, list, answer)
+        }
     }
 }
 
@@ -220,4 +357,10 @@ fn main() {
     run_file(b"chart", Call::Chart);
     run_file(b"image_pick", Call::ImagePick);
     run_file(b"plane_pick", Call::PlanePick);
+    run_file(b"sample_parameter", Call::SampleParameter);
+    run_file(b"direction", Call::Direction);
+    run_file(b"spherical_triangle", Call::SphericalTriangle);
+    run_file(b"point_on", Call::PointOn);
+    run_file(b"cylinder_point", Call::CylinderPoint);
+    run_file(b"placed", Call::Placed);
 }
