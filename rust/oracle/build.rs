@@ -11,7 +11,13 @@ const HYPOT_CALLS: usize = 10;
 
 /// What the recorded copy adds: (text of uv.rs, the recorder before it).
 /// `reached(n)` stands before check n of document 01 decides.
-const RECORDERS: [(&str, &str); 8] = [
+const RECORDERS: [(&str, &str); 11] = [
+    ("    let mut sides = Vec::new();", "reached(17)"),
+    (
+        "    if sides\n        .iter()\n        .zip(",
+        "reached(18)",
+    ),
+    ("    let mut sum = [0.0; 3];", "reached(19)"),
     (
         "    // A candidate must be inside an odd number",
         "reached(11)",
@@ -25,11 +31,26 @@ const RECORDERS: [(&str, &str); 8] = [
     ("    (physical_clearance > ", "reached(15)"),
 ];
 
+/// The same in what is cut out of faces.rs' `cylinder_point`.
+const MIDDLE_RECORDER: (&str, &str) = ("    let tau = std::f64::consts::TAU;", "reached(23)");
+
 /// Appended to every copy of uv.rs: its private functions, for the driver.
 const EXPORTS: &str = "
 // Appended by build.rs. Above this line stands the original's text.
 pub(crate) mod exports {
-    use super::{Context, Value, V3};
+    use super::{Context, SurfaceGeometry, Value, V3};
+
+    pub(crate) fn sample_parameter(range: [f64; 2], n: usize) -> f64 {
+        super::sample_parameter(range, n)
+    }
+
+    pub(crate) fn edge_points(
+        ctx: &Context,
+        coedge: &Value,
+        surface: &SurfaceGeometry,
+    ) -> Option<(Vec<[f64; 2]>, f64)> {
+        super::edge_points(ctx, coedge, surface)
+    }
 
     pub(crate) fn point(ctx: &Context, face: &Value, geometry: &Value) -> Option<V3> {
         super::point(ctx, face, geometry)
@@ -57,6 +78,21 @@ pub(crate) mod exports {
 }
 ";
 
+/// Appended to the functions of faces.rs: those that are calls, for the driver.
+const FACES_EXPORTS: &str = "
+pub(crate) mod calls {
+    use super::{Context, Value, V3};
+
+    pub(crate) fn point_on(ctx: &Context, face: &Value) -> Option<V3> {
+        super::point_on(ctx, face)
+    }
+
+    pub(crate) fn placed(body: &Value, p: V3) -> Option<V3> {
+        super::placed(body, p)
+    }
+}
+";
+
 /// Appended where `hypot` was replaced: the stand-in is a method of this trait.
 const STAND_IN: &str = "
 use crate::stand_in::RootOfSquares as _;
@@ -74,7 +110,9 @@ fn write_copies(original: &Path, out: &Path) {
     println!("cargo:rerun-if-changed={}", original.display());
     let uv = read(&original.join("uv.rs"));
     let sketch = sketch_parts(&read(&original.join("sketch.rs")));
-    let faces = function(&read(&original.join("faces.rs")), "fn inside(");
+    let faces = read(&original.join("faces.rs"));
+    let middle = middle_of(&faces);
+    let faces = faces_parts(&faces);
 
     let standing_in = replaced(&uv, ".hypot(", ".root_of_squares(", HYPOT_CALLS);
     let mut recorded = standing_in.clone();
@@ -82,15 +120,19 @@ fn write_copies(original: &Path, out: &Path) {
         let with_recorder = format!("    crate::recorder::{recorder};\n{text}");
         recorded = replaced(&recorded, text, &with_recorder, 1);
     }
+    let (text, recorder) = MIDDLE_RECORDER;
+    let with_recorder = format!("    crate::recorder::{recorder};\n{text}");
+    let recorded_middle = replaced(&middle, text, &with_recorder, 1);
     let copies = [
-        ("stand_in", standing_in + STAND_IN + EXPORTS),
-        ("recorded", recorded + STAND_IN + EXPORTS),
-        ("published", uv + EXPORTS),
+        ("stand_in", standing_in + STAND_IN + EXPORTS, &middle),
+        ("recorded", recorded + STAND_IN + EXPORTS, &recorded_middle),
+        ("published", uv + EXPORTS, &middle),
     ];
     let mut modules = String::new();
-    for (name, text) in copies {
+    for (name, text, middle) in copies {
         let path = out.join(format!("uv_{name}.rs"));
         write(&path, &text);
+        let faces = format!("{faces}{middle}{FACES_EXPORTS}");
         modules += &wrapper(name, &sketch, &faces, &path);
     }
     write(&out.join("copies.rs"), &modules);
@@ -104,8 +146,9 @@ mod sketch {{
 use serde_json::Value;
 {sketch}}}
 pub(crate) mod faces {{
-use super::sketch::{{v3, V3}};
+use super::sketch::{{dot, v3, V3}};
 use crate::shims::Context;
+use serde_json::Value;
 {faces}
 #[path = {uv:?}]
 mod uv;
@@ -126,6 +169,31 @@ fn sketch_parts(text: &str) -> String {
     parts
 }
 
+/// Of faces.rs, the two calls and what they need, `inside` for uv.rs among it.
+fn faces_parts(text: &str) -> String {
+    let functions = ["placed", "point_on", "cylinder_point", "inside"];
+    let cut = functions.map(|name| function(text, &format!("fn {name}(")));
+    cut.concat()
+}
+
+/// `cylinder_point` from its lows and highs to its middle height, as a function of
+/// both lists: its angles come from atan2, and what follows turns them back.
+fn middle_of(text: &str) -> String {
+    let text = function(text, "fn cylinder_point(");
+    let text = cut(
+        &text,
+        "    let low = ",
+        "    let mid_height = (low + high) / 2.0;\n",
+    );
+    format!(
+        "
+pub(crate) fn middle(heights: &[f64], mut angles: Vec<f64>) -> Option<(f64, f64)> {{
+{text}    Some((middle, mid_height))
+}}
+"
+    )
+}
+
 /// A function at the left margin, from `start` to the brace that closes it.
 fn function(text: &str, start: &str) -> String {
     cut(text, start, "\n}\n")
@@ -141,7 +209,7 @@ fn cut(text: &str, start: &str, end: &str) -> String {
     assert_eq!(text.matches(&start).count(), 1, "{start:?} is found once");
     let tail = text.split_once(&start).expect("found above").1;
     let body = tail.split_once(end).expect("a cut has an end").0;
-    format!("{}{body}{end}", start.trim_start())
+    format!("{}{body}{end}", &start[1..])
 }
 
 fn replaced(text: &str, from: &str, to: &str, hits: usize) -> String {
@@ -155,11 +223,21 @@ const CALLS: [&str; 3] = [
     "facepoint_image_pick",
     "facepoint_plane_pick",
 ];
+/// The exported calls after the picker.
+const AFTER: [&str; 6] = [
+    "facepoint_sample_parameter",
+    "facepoint_direction",
+    "facepoint_spherical_triangle",
+    "facepoint_point_on",
+    "facepoint_cylinder_point",
+    "facepoint_placed",
+];
 
 /// Links the proved calls where their archive stands; all else builds without.
 fn find_archive(manifest: &Path) {
     println!("cargo:rustc-check-cfg=cfg(facepoint_archive)");
     println!("cargo:rustc-check-cfg=cfg(facepoint_calls)");
+    println!("cargo:rustc-check-cfg=cfg(facepoint_after)");
     println!("cargo:rerun-if-env-changed=FACEPOINT_ARCHIVE");
     let archive = env::var_os("FACEPOINT_ARCHIVE").map_or_else(
         || manifest.join("../../target/staticlib/libcapi.a"),
@@ -177,6 +255,9 @@ fn find_archive(manifest: &Path) {
     println!("cargo:rustc-cfg=facepoint_archive");
     if has_names(&archive, &CALLS) {
         println!("cargo:rustc-cfg=facepoint_calls");
+    }
+    if has_names(&archive, &AFTER) {
+        println!("cargo:rustc-cfg=facepoint_after");
     }
     println!("cargo:rustc-link-search=native={}", folder.display());
     println!("cargo:rustc-link-lib=static={}", name.expect("libNAME.a"));

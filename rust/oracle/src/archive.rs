@@ -110,3 +110,103 @@ mod calls {
         }
     }
 }
+
+/// The six calls after the picker.
+#[cfg(facepoint_after)]
+pub mod after {
+    use crate::after::convention::Lent;
+    use crate::after::Call;
+
+    extern "C" {
+        fn facepoint_sample_parameter(
+            a: f64,
+            b: f64,
+            n: u32,
+            result: *mut f64,
+            result_length: usize,
+        ) -> u32;
+
+        fn facepoint_direction(
+            points: *const f64,
+            points_length: usize,
+            result: *mut f64,
+            result_length: usize,
+        ) -> u32;
+
+        fn facepoint_spherical_triangle(
+            centre: *const f64,
+            centre_length: usize,
+            radius: f64,
+            sense: u32,
+            sides: *const f64,
+            sides_length: usize,
+            result: *mut f64,
+            result_length: usize,
+        ) -> u32;
+
+        fn facepoint_point_on(
+            u_axis: *const f64,
+            u_axis_length: usize,
+            normal: *const f64,
+            normal_length: usize,
+            corners: *const f64,
+            corners_length: usize,
+            result: *mut f64,
+            result_length: usize,
+        ) -> u32;
+
+        fn facepoint_cylinder_point(
+            heights: *const f64,
+            heights_length: usize,
+            angles: *const f64,
+            angles_length: usize,
+            result: *mut f64,
+            result_length: usize,
+        ) -> u32;
+
+        fn facepoint_placed(
+            transform: *const f64,
+            transform_length: usize,
+            point: *const f64,
+            point_length: usize,
+            result: *mut f64,
+            result_length: usize,
+        ) -> u32;
+    }
+
+    /// Whichever call it is, made with what is lent for it.
+    pub fn made(lent: &mut Lent) -> u32 {
+        let lists: Vec<&[f64]> = lent.lists.iter_mut().map(|list| &*list.lent()).collect();
+        let result = lent.result.lent();
+        let (five, length) = (result.as_mut_ptr(), result.len());
+        // A slice of the host's, as the convention takes it.
+        macro_rules! list {
+            ($call:ident, $($list:expr),+) => {
+                $call($($list.as_ptr(), $list.len(),)+ five, length)
+            };
+        }
+        // SAFETY, of all six: defined for every number and length. Each pointer is
+        // valid for the length beside it, and the result overlaps nothing.
+        unsafe {
+            match lent.call {
+                Call::SampleParameter => {
+                    facepoint_sample_parameter(lists[0][0], lists[1][0], lent.whole, five, length)
+                }
+                Call::Direction => list!(facepoint_direction, lists[0]),
+                Call::SphericalTriangle => facepoint_spherical_triangle(
+                    lists[0].as_ptr(),
+                    lists[0].len(),
+                    lists[1][0],
+                    lent.whole,
+                    lists[2].as_ptr(),
+                    lists[2].len(),
+                    five,
+                    length,
+                ),
+                Call::PointOn => list!(facepoint_point_on, lists[0], lists[1], lists[2]),
+                Call::CylinderPoint => list!(facepoint_cylinder_point, lists[0], lists[1]),
+                Call::Placed => list!(facepoint_placed, lists[0], lists[1]),
+            }
+        }
+    }
+}

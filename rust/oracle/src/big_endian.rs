@@ -21,3 +21,15 @@ pub(crate) fn take_u32(rest: &mut &[u8]) -> Option<u32> {
 pub(crate) fn take_u64(rest: &mut &[u8]) -> Option<u64> {
     take(rest).map(u64::from_be_bytes)
 }
+
+/// What is read one after the other to the end; none where the last is cut off.
+pub(crate) fn take_all<T>(
+    mut rest: &[u8],
+    next: impl Fn(&mut &[u8]) -> Option<T>,
+) -> Option<Vec<T>> {
+    let mut all = Vec::new();
+    while !rest.is_empty() {
+        all.push(next(&mut rest)?);
+    }
+    Some(all)
+}

@@ -7,7 +7,7 @@ use crate::generate::{calls, Trial};
 use crate::tally::Tally;
 
 /// Places behind each list that the call was not lent.
-const GUARD: usize = 2;
+pub(crate) const GUARD: usize = 2;
 /// What stands in the bytes behind a sheet.
 const GUARD_BYTE: u8 = 0xA5;
 
@@ -18,7 +18,7 @@ pub struct Guarded<T> {
 }
 
 impl<T: Copy> Guarded<T> {
-    fn new(list: Vec<T>, guard: T) -> Guarded<T> {
+    pub(crate) fn new(list: Vec<T>, guard: T) -> Guarded<T> {
         let length = list.len();
         let mut storage = list;
         storage.extend([guard; GUARD]);
@@ -33,6 +33,13 @@ impl<T: Copy> Guarded<T> {
     /// What stands behind it.
     pub fn behind(&mut self) -> &mut [T] {
         &mut self.storage[self.length..]
+    }
+}
+
+impl Guarded<f64> {
+    /// Every place, guards included.
+    pub(crate) fn bits(&self) -> Vec<u64> {
+        self.storage.iter().map(|x| x.to_bits()).collect()
     }
 }
 
@@ -69,11 +76,10 @@ fn seen(callee: Callee, given: &Given, places: usize) -> Seen {
         result: Guarded::new(vec![UNWRITTEN; places], UNWRITTEN),
     };
     let status = callee(&mut lent);
-    let bits = |list: Guarded<f64>| list.storage.into_iter().map(f64::to_bits).collect();
     Seen {
         status,
-        result: bits(lent.result),
-        list: bits(lent.list),
+        result: lent.result.bits(),
+        list: lent.list.bits(),
         sheet: lent.sheet.storage,
     }
 }
@@ -102,7 +108,7 @@ impl Seen {
     }
 }
 
-fn difference<T: Copy + PartialEq>(
+pub(crate) fn difference<T: Copy + PartialEq>(
     name: &str,
     ours: &[T],
     theirs: &[T],

@@ -1,6 +1,7 @@
 //! Seedable sheets: every kind, sense and phase, and the places where an easy
 //! reading of document 01 goes wrong. The same seed gives the same case.
 
+pub mod after;
 mod calls;
 mod damage;
 mod families;

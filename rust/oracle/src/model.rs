@@ -1,14 +1,19 @@
-//! Document 01 as a program, over the bytes of a sheet: reader, chart, image
-//! pick and plane pick with their refusal numbers, clearance and count. Written
-//! from the document, in its order, apart from the original; where the two
+//! Document 01 as a program: over the bytes of a sheet reader, chart, image pick
+//! and plane pick with their refusal numbers, clearance and count, and over numbers
+//! and lists the calls after the picker. Written from the document, in its order, apart from the original; where the two
 //! texts differ the Rust prevails. Plain and slow on purpose.
 
+mod after;
 mod chart;
+mod fallbacks;
 mod fault;
 mod leaves;
 mod point;
 mod reader;
+pub(crate) mod space;
+mod triangle;
 
+pub use after::Found;
 pub use fault::Fault;
 
 use chart::Chart;

@@ -1,9 +1,12 @@
 //! Drives the original: a sheet becomes the rows that `pick` walks, and the
 //! shims hand out the sheet's numbers.
 
+mod after;
+
 use std::f64::consts::PI;
 
 use crate::copies;
+use crate::geometry::SurfaceGeometry;
 use crate::recorder::{self, Record};
 use crate::sheet::{Plane, Sheet, Uv, FORWARD, PLANE, REVERSED, SAMPLES};
 use crate::shims::json::Value;
@@ -12,13 +15,22 @@ use crate::shims::Context;
 use crate::surface::Surface;
 
 type Picked = Option<[f64; 3]>;
+/// The points of an edge and their deviation.
+type Sampled = Option<(Vec<Uv>, f64)>;
+/// Middle angle and height.
+type Middle = Option<(f64, f64)>;
 
-/// One of the copies of uv.rs that build.rs makes.
+/// One of the copies of the original that build.rs makes.
 #[derive(Clone, Copy)]
 pub struct Copy {
     pick: fn(&Context, &Value, &Value, f64) -> Picked,
     point: fn(&Context, &Value, &Value) -> Picked,
     spherical_triangle: fn(&Context, &Value, &Value) -> Picked,
+    sample_parameter: fn([f64; 2], usize) -> f64,
+    edge_points: fn(&Context, &Value, &SurfaceGeometry) -> Sampled,
+    point_on: fn(&Context, &Value) -> Picked,
+    middle: fn(&[f64], Vec<f64>) -> Middle,
+    placed: fn(&Value, [f64; 3]) -> Picked,
     pub inside: fn(&[Uv], Uv) -> bool,
     pub periodic_winding: fn(&[Vec<Uv>], Uv, f64) -> i32,
 }
@@ -29,6 +41,11 @@ macro_rules! copy {
             pick: copies::$name::faces::exports::pick,
             point: copies::$name::faces::exports::point,
             spherical_triangle: copies::$name::faces::exports::spherical_triangle,
+            sample_parameter: copies::$name::faces::exports::sample_parameter,
+            edge_points: copies::$name::faces::exports::edge_points,
+            point_on: copies::$name::faces::calls::point_on,
+            middle: copies::$name::faces::middle,
+            placed: copies::$name::faces::calls::placed,
             inside: copies::$name::faces::exports::inside,
             periodic_winding: copies::$name::faces::exports::periodic_winding,
         }

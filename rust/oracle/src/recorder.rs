@@ -1,14 +1,14 @@
-//! What the recorded copy of uv.rs reports while it runs; build.rs inserts the
-//! calls. One record for each thread, as the original runs on its caller's.
+//! What the recorded copy of the original reports while it runs; build.rs inserts
+//! the calls. One record for each thread, as the original runs on its caller's.
 
 use std::cell::Cell;
 
 /// How far the original came.
 #[derive(Clone, Copy, Debug, PartialEq, Eq)]
 pub enum Stage {
-    /// Still gathering the points of the edges.
+    /// Still gathering the points of the edges, or before any check that is recorded.
     Rings,
-    /// Before this check of document 01 (11 to 15) was decided.
+    /// Before this check of document 01 (11 to 15, 17 to 19, 23) was decided.
     Check(u32),
     /// Evaluating the chosen point or the boundary.
     Evaluating,

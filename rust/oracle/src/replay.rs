@@ -10,7 +10,7 @@
 use std::collections::BTreeMap;
 use std::f64::consts::PI;
 
-use crate::big_endian::{take_part, take_u32, take_u64};
+use crate::big_endian::{take_all, take_part, take_u32, take_u64};
 use crate::call::{Call, Given, Judge, Left};
 use crate::compare::UNWRITTEN;
 use crate::generate::{calls, case, damaged_calls, largest, on_flat_plane, reordered, Case};
@@ -53,12 +53,8 @@ pub fn file(records: &[Record]) -> Vec<u8> {
 }
 
 /// The records of a call's file; none where it does not end with a record.
-pub fn read(call: Call, mut file: &[u8]) -> Option<Vec<Record>> {
-    let mut records = Vec::new();
-    while !file.is_empty() {
-        records.push(Record::read(call, &mut file)?);
-    }
-    Some(records)
+pub fn read(call: Call, file: &[u8]) -> Option<Vec<Record>> {
+    take_all(file, |rest| Record::read(call, rest))
 }
 
 impl Record {

@@ -1,13 +1,109 @@
-//! The copies of the original against each other.
+//! The copies of the original against its text and against each other.
 
 use std::f64::consts::FRAC_PI_2;
+use std::fs;
+use std::path::Path;
 
 use oracle::generate::case;
-use oracle::original::{PUBLISHED, STAND_IN};
+use oracle::original::{PUBLISHED, RECORDED, STAND_IN};
+use oracle::rng::Rng;
 use oracle::sheet::{Ring, Sheet, FORWARD, REVERSED, SPHERE, TORUS};
 use oracle::surface::Surface;
 
-/// The triangle is a call of its own; the shims' carriers are no circles.
+fn original(name: &str) -> String {
+    let folder = Path::new(env!("CARGO_MANIFEST_DIR")).join("original");
+    fs::read_to_string(folder.join(name)).expect("a file of the original")
+}
+
+fn built(name: &str) -> String {
+    fs::read_to_string(Path::new(env!("OUT_DIR")).join(name)).expect("a file of build.rs")
+}
+
+/// The text from `from` through `to`, which follows it.
+fn part(text: &str, from: &str, to: &str) -> String {
+    let start = text.find(from).expect("the beginning");
+    let length = text[start..].find(to).expect("the end") + to.len();
+    text[start..start + length].to_owned()
+}
+
+/// uv.rs stands whole at the head of two copies, but for `hypot` in the one; what is
+/// taken of faces.rs and sketch.rs stands in all three, word for word. The recorded
+/// copy has lines more, and its answers are held against the others'.
+#[test]
+fn the_copies_hold_the_originals_text() {
+    let uv = original("uv.rs");
+    assert!(built("uv_published.rs").starts_with(&uv));
+    let stand_in = uv.replace(".hypot(", ".root_of_squares(");
+    assert!(built("uv_stand_in.rs").starts_with(&stand_in));
+    let recorded = built("uv_recorded.rs");
+    let lines = recorded
+        .lines()
+        .filter(|line| !line.contains("crate::recorder::"));
+    let unrecorded: String = lines.flat_map(|line| [line, "\n"]).collect();
+    assert!(unrecorded.starts_with(&stand_in));
+
+    let (faces, sketch, copies) = (
+        original("faces.rs"),
+        original("sketch.rs"),
+        built("copies.rs"),
+    );
+    let function = |text: &str, name: &str| part(text, &format!("fn {name}("), "\n}\n");
+    let mut taken = ["placed", "point_on", "cylinder_point", "inside"]
+        .map(|n| function(&faces, n))
+        .to_vec();
+    taken.extend(["dot", "cross", "unit", "v3", "number"].map(|name| function(&sketch, name)));
+    taken.push(part(&sketch, "const PARALLEL", ";\n"));
+    for text in taken {
+        assert_eq!(copies.matches(&text).count(), 3, "{text}");
+    }
+    // The middle, in `cylinder_point` and by itself; one of the latter is recorded.
+    let middle = part(
+        &faces,
+        "    let low = ",
+        "    let mid_height = (low + high) / 2.0;\n",
+    );
+    assert_eq!(copies.matches(&middle).count(), 5);
+}
+
+/// `cylinder_point` as a whole answers at the middle of its middle part.
+#[test]
+fn the_middle_is_that_of_the_whole_function() {
+    let mut rng = Rng::new(1);
+    let mut answered = 0;
+    for _ in 0..4_000 {
+        let (radius, from) = (rng.between(0.5, 9.0), rng.between(-3.0, 3.0));
+        let sweep = rng.pick(&[0.0, 1.0, 3.0, 6.0]);
+        let corners: Vec<[f64; 3]> = (0..rng.whole(1, 6))
+            .map(|_| {
+                let angle = from + rng.between(0.0, sweep);
+                [
+                    radius * angle.cos(),
+                    radius * angle.sin(),
+                    rng.between(-5.0, 5.0),
+                ]
+            })
+            .collect();
+        let heights: Vec<f64> = corners.iter().map(|p| p[2]).collect();
+        let angles: Vec<f64> = corners.iter().map(|p| p[1].atan2(p[0])).collect();
+        let (middle, _) = STAND_IN.middle(&heights, &angles);
+        let expected = middle.map(|[angle, height]| {
+            [
+                0.0 + radius * angle.cos(),
+                0.0 + radius * angle.sin(),
+                height,
+            ]
+        });
+        for copy in [STAND_IN, RECORDED, PUBLISHED] {
+            assert_eq!(copy.middle(&heights, &angles).0, middle);
+            assert_eq!(copy.cylinder_point(radius, &corners), expected);
+        }
+        answered += usize::from(middle.is_some());
+    }
+    println!("{answered} answered");
+    assert!((1_000..3_900).contains(&answered));
+}
+
+/// The triangle is a call of its own; a sheet's carriers are no circles.
 #[test]
 fn the_spherical_triangle_never_answers() {
     let corners = [[0.0, 0.0], [FRAC_PI_2, 0.0], [FRAC_PI_2, FRAC_PI_2]];

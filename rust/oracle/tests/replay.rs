@@ -142,7 +142,8 @@ fn the_programs_output_counts_the_files() {
         let (name, answers, points) = (file_name(call), records.len(), points.count());
         format!("{name}: {answers} answers, {points} points, 0 wrong\n")
     });
-    assert_eq!(expected, lines.concat());
+    // The calls after the picker come behind; tests/after_replay.rs counts theirs.
+    assert!(expected.starts_with(&lines.concat()));
 }
 
 #[test]

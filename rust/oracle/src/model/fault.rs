@@ -2,13 +2,14 @@
 //! each.
 
 macro_rules! faults {
-    (rules { $($rule:ident,)* } lists { $($list:ident,)* }) => {
+    (rules { $($rule:ident,)* } lists { $($list:ident,)* } after { $($after:ident,)* }) => {
         #[derive(Clone, Copy, Debug, PartialEq, Eq)]
         pub enum Fault {
             /// Document 01 as it stands.
             None,
             $($rule,)*
             $($list,)*
+            $($after,)*
         }
 
         impl Fault {
@@ -17,6 +18,8 @@ macro_rules! faults {
             /// Faults in what a pick takes, which show on image lists made for
             /// them or on kinds that are refused.
             pub const LISTS: &'static [Fault] = &[$(Fault::$list,)*];
+            /// Faults in a call after the picker.
+            pub const AFTER: &'static [Fault] = &[$(Fault::$after,)*];
         }
     };
 }
@@ -98,5 +101,78 @@ lists {
     RingsJoinedInSpace,
     LastSegmentInSpaceOmitted,
     AnswerWithoutNegativeZero,
+}
+after {
+    // Check 16.
+    NumberAtLimitRefused,
+    NegativeNumberUnbounded,
+    // sample_parameter.
+    SeventeenthSample,
+    FirstSampleByFormula,
+    LastSampleByFormula,
+    SamplePartFirst,
+    SampleNotClamped,
+    SampleClampedAsGiven,
+    // The direction test.
+    DirectionTieReversed,
+    DirectionByTheEnd,
+    KeepBeforeReversal,
+    KeepAtLimit,
+    KeepByEitherEnd,
+    DistanceByOneRoot,
+    // Triangle.
+    AnyFlag,
+    FlagIgnored,
+    SenseFirst,
+    CircleCentreAtLimit,
+    CircleRadiusAtLimit,
+    SweepAtLimit,
+    SweepSigned,
+    EvaluatedAfterReversal,
+    EvaluatedAtLimit,
+    SphereAtLimit,
+    UnitAtLimit,
+    GapsWhileWalking,
+    LastGapOmitted,
+    GapAtLimit,
+    SumOfEnds,
+    SumNotUnit,
+    SignDropped,
+    AbsentSenseForward,
+    ProductAtLimitPasses,
+    FirstProductAlone,
+    // Vertex fallback.
+    FarCornersUnchecked,
+    CornersAtLimitRefused,
+    CornersNotInThrees,
+    CornersCrossReversed,
+    TripleStartsAtOne,
+    TripleFromCornerOn,
+    LastTripleServes,
+    CentreSummedBackwards,
+    DegenerateServes,
+    DegenerateAtLimit,
+    // Round fallback.
+    FarAnglesUnchecked,
+    AnglesAtLimitRefused,
+    SpreadAtLimitPasses,
+    NoAnglesBy22,
+    HeightOfTheEnds,
+    HeightBySpread,
+    OneAngleItself,
+    SeamGapOmitted,
+    TurnAtLimitPasses,
+    MiddleReduced,
+    MiddleOfTheGap,
+    RemainderKeepsSign,
+    AnglesNotSorted,
+    DedupAgainstNeighbour,
+    DedupNotStrict,
+    DedupAcrossSeam,
+    // placed.
+    TransformByColumns,
+    InfinityPlaced,
+    TranslationLast,
+    RowSummedBackwards,
 }
 }

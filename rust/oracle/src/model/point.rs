@@ -4,9 +4,8 @@ use super::chart::{segments, Chart};
 use super::fault::Fault;
 use super::leaves::{hypot3, larger_of, smaller_of};
 use super::reader::{Plane, Ring};
+use super::space::{cross, dot, Position};
 use super::{Answer, Model};
-
-type Position = [f64; 3];
 
 impl Model {
     /// (origin + u × u axis) + v × (normal cross u axis).
@@ -114,16 +113,4 @@ impl Model {
             from_a[2] - t * d[2],
         )
     }
-}
-
-fn dot(a: Position, b: Position) -> f64 {
-    a[0] * b[0] + a[1] * b[1] + a[2] * b[2]
-}
-
-fn cross(a: Position, b: Position) -> Position {
-    [
-        a[1] * b[2] - a[2] * b[1],
-        a[2] * b[0] - a[0] * b[2],
-        a[0] * b[1] - a[1] * b[0],
-    ]
 }

@@ -21,25 +21,32 @@ pub mod geometry {
     pub mod pcurve {
         use super::{FromValue, Value};
 
-        /// No sheet has one: its points come over the curve carrier.
-        pub enum PcurveGeometry {}
+        /// A trim whose u is its parameter. No sheet has one: its points come over
+        /// the curve carrier.
+        pub struct PcurveGeometry;
 
         impl FromValue for PcurveGeometry {
             fn from_value(_: &Value) -> Option<PcurveGeometry> {
-                None
+                Some(PcurveGeometry)
             }
         }
     }
 
-    /// The carrier of a coedge: the sheet's samples from this index on.
-    pub struct CurveGeometry {
-        pub first_sample: usize,
+    /// The carrier of a coedge.
+    pub enum CurveGeometry {
+        /// The sheet's samples from this index on.
+        Samples(usize),
+        /// A side of a triangle: the scene evaluates its ends.
+        Circle,
     }
 
     impl FromValue for CurveGeometry {
         fn from_value(value: &Value) -> Option<CurveGeometry> {
+            if value.get("kind")?.as_str()? == "circle" {
+                return Some(CurveGeometry::Circle);
+            }
             let first_sample = value.get("first_sample")?.as_f64()? as usize;
-            Some(CurveGeometry { first_sample })
+            Some(CurveGeometry::Samples(first_sample))
         }
     }
 
@@ -161,21 +168,27 @@ pub mod eval {
             Ok(admitted(p))
         }
 
-        /// The parameter counts the samples, from 0 to 16.
+        /// The parameter counts a sheet's samples, from 0 to 16.
         pub fn curve_point(
             _admission: EvaluationAdmission,
             curve: &CurveGeometry,
             t: f64,
         ) -> Result<Admitted<Point3>, Failed> {
-            Ok(admitted(Scene::name(curve.first_sample + t as usize)))
+            match curve {
+                CurveGeometry::Samples(first) => Ok(admitted(Scene::name(first + t as usize))),
+                CurveGeometry::Circle => {
+                    let p = scene::with(|scene| scene.evaluate([t, 0.0])).ok_or(Failed)?;
+                    Ok(admitted(p))
+                }
+            }
         }
 
         pub fn pcurve_uv(
             _admission: EvaluationAdmission,
-            pcurve: &PcurveGeometry,
-            _t: f64,
+            _pcurve: &PcurveGeometry,
+            t: f64,
         ) -> Result<Admitted<Parameters>, Failed> {
-            match *pcurve {}
+            Ok(Admitted(Parameters { u: t, v: 0.0 }))
         }
     }
 }

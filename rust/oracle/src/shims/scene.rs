@@ -19,6 +19,8 @@ pub enum Evaluation {
     On(Surface),
     /// The points in the order in which they are asked for, whatever u and v.
     InOrder(Vec<[f64; 3]>),
+    /// The images of a trim's first and last point, where u is 0 and 16.
+    Ends([[f64; 3]; 2]),
 }
 
 pub struct Scene {
@@ -65,6 +67,11 @@ impl Scene {
         match &self.evaluation {
             Evaluation::On(surface) => surface.point(uv[0], uv[1]),
             Evaluation::InOrder(points) => points.get(self.calls.len() - 1).copied(),
+            Evaluation::Ends([first, last]) => match uv[0] {
+                0.0 => Some(*first),
+                16.0 => Some(*last),
+                _ => None,
+            },
         }
     }
 }
