@@ -1,14 +1,16 @@
--- Keys and hypotenuses. A key is a value without a sign, or a NaN. Keys order as hypotenuses do: the hypotenuse of the lesser key is not greater, and the least of two hypotenuses is that of the lesser key,
--- so the least of many takes one root. A hypotenuse is never -0, never negative, and fits. Assumes nothing.
+-- Keys and hypotenuses. A key is a value without a sign, or a NaN. Keys order as hypotenuses do: the hypotenuse of the lesser key is not greater, the least of two hypotenuses is that of the lesser key, and the greatest
+-- that of the greater, so the least of many takes one root. A hypotenuse is never -0, never negative, and fits. Assumes nothing.
 use mathlib.Core.Path.{_≡_, refl, ap, _∙_}
 use mathlib.Core.List.{List, [], _∷_, foldl}
 use mathlib.Core.Bool.{false}
 use Prim.Native.Nat.{zero}
 use lib.Dec.{T}
 use lib.IntN.{pos}
-use lib.Ieee.{Float, inf, fin, binary64, mul, lt, le, fits}
+use lib.Ieee.{Float, inf, fin, binary64, mul, lt, le, fits, ofBits}
+use lib.Ieee.Bits.{ofBits-fits}
 use lib.Ieee.Fits.{add-fits, inf-fits}
-use Rattle.leaves.specs.Bounds.{smallerOf}
+use Rattle.leaves.specs.Bounds.{smallerOf, largerOf}
+use Rattle.leaves.specs.Constants as constants
 use Rattle.leaves.specs.Root.{rootIn, rootOf}
 use Rattle.leaves.specs.Hypot.{keyOf, hypotOfKey, hypotOf, hypot3Of}
 use Rattle.leaves.proofs.Values.{sign}
@@ -16,7 +18,7 @@ use Rattle.leaves.proofs.Choices.{Clear, smaller-keeps}
 use Rattle.leaves.proofs.Folds.{All}
 use Rattle.leaves.proofs.Signs.{Unsigned, clear-of-sign, add-positive, square-positive}
 use Rattle.leaves.proofs.Roots.{root-held}
-use Rattle.leaves.proofs.RootOrder.{unsigned-not-negative, root-mono, root-unsigned, lt-of-roots, smaller-root}
+use Rattle.leaves.proofs.RootOrder.{unsigned-not-negative, root-mono, root-unsigned, lt-of-roots, smaller-root, larger-root}
 
 -- ---- keys
 
@@ -35,6 +37,15 @@ inf-key = record { held = inf-fits binary64 false; unsigned = refl }
 pub hypot-of-inf : hypotOfKey (inf false) ≡ inf false
 unfolding hypotOfKey rootOf rootIn
 hypot-of-inf = refl
+
+-- the start of a greatest: so is zero
+pub zero-key : Key constants.zero
+unfolding ofBits
+zero-key = record { held = ofBits-fits binary64 0; unsigned = refl }
+
+pub hypot-of-zero : hypotOfKey constants.zero ≡ constants.zero
+unfolding hypotOfKey rootOf rootIn ofBits
+hypot-of-zero = refl
 
 pub smaller-key : (k l : Float) → Key k → Key l → Key (smallerOf k l)
 smaller-key k l p q = smaller-keeps Key k l p q
@@ -66,6 +77,10 @@ lt-of-hypots k l p q h = lt-of-roots binary64 l k (q .held) (p .held) (q .unsign
 pub smaller-hypot : (k l : Float) → Key k → Key l → smallerOf (hypotOfKey k) (hypotOfKey l) ≡ hypotOfKey (smallerOf k l)
 unfolding hypotOfKey rootOf
 smaller-hypot k l p q = smaller-root binary64 k l (p .held) (q .held) (p .unsigned) (q .unsigned)
+
+pub larger-hypot : (k l : Float) → Key k → Key l → largerOf (hypotOfKey k) (hypotOfKey l) ≡ hypotOfKey (largerOf k l)
+unfolding hypotOfKey rootOf
+larger-hypot k l p q = larger-root binary64 k l (p .held) (q .held) (p .unsigned) (q .unsigned)
 
 -- the least hypotenuse of many is the hypotenuse of the least key
 pub least-hypot : (ks : List Float) → All Key ks → (k : Float) → Key k → foldl (λ (h l : Float). smallerOf h (hypotOfKey l)) (hypotOfKey k) ks ≡ hypotOfKey (foldl smallerOf k ks)

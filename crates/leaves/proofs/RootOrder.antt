@@ -1,4 +1,4 @@
--- The root keeps the order, so the least of two roots is the root of the lesser; it is -0 only of -0 and never negative. Here "no sign" is said of a NaN too.
+-- The root keeps the order, so the least of two roots is the root of the lesser, and the greatest that of the greater; it is -0 only of -0 and never negative. Here "no sign" is said of a NaN too.
 -- Assumes nothing.
 use mathlib.Core.Path.{_≡_, refl, sym, _∙_, subst}
 use mathlib.Core.Bool.{Bool, true, false, not, cond, true≢false}
@@ -14,7 +14,7 @@ use lib.Ieee.Exact.{HasValue}
 use lib.Ieee.Order.{round-mono, le-of-values}
 use lib.Ieee.Positive.{positive}
 use lib.Ieee.Scale.{overflow}
-use Rattle.leaves.specs.Bounds.{smallerOf}
+use Rattle.leaves.specs.Bounds.{smallerOf, largerOf}
 use Rattle.leaves.specs.Root.{rounded, rootIn}
 use Rattle.leaves.proofs.Values.{unitsIn, sign, zero-value, zero-units, units-zero, units-small}
 use Rattle.leaves.proofs.WholeRoots.{halves, halves-mono}
@@ -141,6 +141,13 @@ number-of-root f nan h = h
 number-of-root f (inf s) h = tt
 number-of-root f (fin s m e) h = tt
 
+-- c picks the argument and d the root: they agree, or the roots are the same
+picked : (f : Format) (a b : Float) (c d : Bool) → (T (not c) → T d → ⊥) → (T c → T (not d) → rootIn f a ≡ rootIn f b) → cond d (rootIn f b) (rootIn f a) ≡ rootIn f (cond c b a)
+picked f a b true true h k = refl
+picked f a b true false h k = k tt tt
+picked f a b false true h k = absurd (h tt tt)
+picked f a b false false h k = refl
+
 module _ (f : Format) (a b : Float) (p : T (fits f a)) (q : T (fits f b)) (s : sign a ≡ false) (t : sign b ≡ false) where
   not-less-roots : T (not (lt b a)) → T (lt (rootIn f b) (rootIn f a)) → ⊥
   not-less-roots n l =
@@ -164,10 +171,9 @@ module _ (f : Format) (a b : Float) (p : T (fits f a)) (q : T (fits f b)) (s : s
 
   pub smaller-root : smallerOf (rootIn f a) (rootIn f b) ≡ rootIn f (smallerOf a b)
   unfolding smallerOf
-  smaller-root = go (lt b a) (lt (rootIn f b) (rootIn f a)) not-less-roots same-roots
-    where
-      go : (c d : Bool) → (T (not c) → T d → ⊥) → (T c → T (not d) → rootIn f a ≡ rootIn f b) → cond d (rootIn f b) (rootIn f a) ≡ rootIn f (cond c b a)
-      go true true h k = refl
-      go true false h k = k tt tt
-      go false true h k = absurd (h tt tt)
-      go false false h k = refl
+  smaller-root = picked f a b (lt b a) (lt (rootIn f b) (rootIn f a)) not-less-roots same-roots
+
+-- the same two laws with a and b in each other's place
+pub larger-root : (f : Format) (a b : Float) → T (fits f a) → T (fits f b) → sign a ≡ false → sign b ≡ false → largerOf (rootIn f a) (rootIn f b) ≡ rootIn f (largerOf a b)
+unfolding largerOf
+larger-root f a b p q s t = picked f a b (lt a b) (lt (rootIn f a) (rootIn f b)) (not-less-roots f b a q p t s) (λ l n. sym (same-roots f b a q p t s l n))
