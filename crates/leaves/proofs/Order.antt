@@ -260,7 +260,7 @@ le-self x h = not-lt→le x x h h (not-T (lt x x) (lt-irrefl x))
 
 -- ---- what lies between finite values is finite
 
-between-finite : (a x b : Float) → T (finite a) → T (finite b) → T (le a x) → T (le x b) → T (finite x)
+pub between-finite : (a x b : Float) → T (finite a) → T (finite b) → T (le a x) → T (le x b) → T (finite x)
 unfolding le lt eq isNan
 between-finite a nan b h k p q = absurd (le-right a nan p)
 between-finite nan (inf true) b h k p q = absurd h
@@ -271,7 +271,7 @@ between-finite a (inf false) (inf t) h k p q = absurd k
 between-finite a (inf false) (fin t n d) h k p q = absurd q
 between-finite a (fin s m e) b h k p q = tt
 
-neg-finite : (x : Float) → T (finite x) → T (finite (neg x))
+pub neg-finite : (x : Float) → T (finite x) → T (finite (neg x))
 unfolding neg
 neg-finite nan h = h
 neg-finite (inf s) h = h

@@ -1,5 +1,6 @@
 -- Which operations give no -0 and no negative value. A sum whose first part is not -0 is not -0: the exact sum of two values that a format holds is a whole number of the
 -- format's smallest value, so where it is not 0 it does not round to 0, and an exact 0 is -0 only where both parts are negative. A square, and a sum of two values that are not negative, has no sign.
+-- Of the other sign a fraction rounds to the same magnitude.
 use mathlib.Core.Path.{_≡_, refl, sym, ap, ap₂, _∙_, subst}
 use mathlib.Core.Bool.{Bool, true, false, not, _&&_, cond, true≢false}
 use Prim.Native.Nat.{ℕ, zero, suc, _+_, _-_, _*_, _/_, _%_, _^_, _≤_, _<_, compare}
@@ -34,6 +35,23 @@ units-signed f s q k = go (ltb (q * 2 ^ k) (overflow f))
 
 pub round-sign : (f : Format) (s : Bool) (num den : ℕ) → sign (round f s num den) ≡ s
 round-sign f s num den = ap sign (round-is f s num den) ∙ units-signed f s (closest (num * 2 ^ low f) (den * 2 ^ (size (num * 2 ^ low f / den) - prec f))) (size (num * 2 ^ low f / den) - prec f)
+
+neg-odd : (d : ℕ) (s : Bool) (q k l : ℕ) → odd d (not s) q k l ≡ neg (odd d s q k l)
+unfolding odd neg
+neg-odd d s zero k l = refl
+neg-odd d s (suc q) k l = refl
+
+neg-units : (f : Format) (s : Bool) (q k : ℕ) → units f (not s) q k ≡ neg (units f s q k)
+unfolding units neg
+neg-units f s q k = go (ltb (q * 2 ^ k) (overflow f))
+  where
+    go : (b : Bool) → cond b (odd (suc (prec f)) (not s) q k (low f)) (inf (not s)) ≡ neg (cond b (odd (suc (prec f)) s q k (low f)) (inf s))
+    go true = neg-odd (suc (prec f)) s q k (low f)
+    go false = refl
+
+-- the other sign rounds to the same magnitude
+pub neg-round : (f : Format) (s : Bool) (num den : ℕ) → round f (not s) num den ≡ neg (round f s num den)
+neg-round f s num den = round-is f (not s) num den ∙ neg-units f s _ _ ∙ ap neg (sym (round-is f s num den))
 
 pub clear-of-sign : (x : Float) → sign x ≡ false → T (not (minusZero x))
 clear-of-sign nan h = tt

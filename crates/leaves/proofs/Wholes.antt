@@ -3,25 +3,26 @@
 -- its own q: so the format holds q, and nothing is rounded a second time.
 use mathlib.Core.Path.{_≡_, refl, sym, ap, ap₂, _∙_, subst, subst₂}
 use mathlib.Core.Logic.{inl, inr}
-use mathlib.Core.Bool.{Bool, true, false, not, cond}
+use mathlib.Core.Bool.{Bool, true, false}
 use Prim.Native.Nat.{ℕ, zero, suc, _+_, _*_, _/_, _^_, _≤_, _<_, zero-le, suc-le-suc}
 use native.Mathlib.Nat.{add-mul, div-lt-iff-lt-mul, div-mul-le-self, div-one, eq-of-mul-eq-mul-right, eq-or-lt-of-le, eq-zero-or-pos, le-antisymm, le-of-eq, le-of-lt, le-of-mul-le-mul-right, le-refl, le-trans, lt-irrefl, lt-of-lt-of-le, lt-of-not-le, mul-assoc, mul-comm, mul-le-mul-left, mul-le-mul-right, mul-left-comm, mul-mul-mul-comm, mul-one, mul-pos, suc-mul, zero-div, zero-lt-suc, zero-mul}
 use native.Mathlib.Decide.{decLe}
 use native.Mathlib.Omega.{arith}
 use lib.IntN.{ℤ, pos, negsuc}
-use lib.Dec.{T, ltb, nltb→le}
-use lib.Arith.{le→nltb}
+use lib.Dec.{T}
 use lib.Pow.{pow-add, pow-mono, pow-pos}
-use lib.Ieee.{Float, nan, inf, fin, Format, binary64, prec, low, hid, up, down, odd, units, round, neg, fits, isNan, lt, le}
+use lib.Ieee.{Float, nan, inf, fin, Format, binary64, low, hid, up, down, round, neg, fits, le}
 use lib.Ieee.Back.{round-whole, whole-unique}
 use lib.Ieee.Exact.{HasValue, round-exact}
-use lib.Ieee.Fits.{down-pos, round-is, round-fits as rounded-fits}
+use lib.Ieee.Fits.{down-pos, round-fits as rounded-fits}
 use lib.Ieee.Nearest.{div-mono}
 use lib.Ieee.Scale.{overflow}
 use Rattle.leaves.specs.Nearest.{gap, NearestWhole}
 use Rattle.leaves.specs.Round.{nearestWhole, roundIn, roundOf}
-use Rattle.leaves.proofs.Order.{le→not-lt, minusZero, not-lt→le}
+use Rattle.leaves.proofs.Fractions.{Ordered, le→ordered, ordered→le, ordered-scaled}
+use Rattle.leaves.proofs.Order.{minusZero}
 use Rattle.leaves.proofs.Packing.{prec-hid}
+use Rattle.leaves.proofs.Signs.{neg-round}
 use Rattle.leaves.proofs.Values.{held, units-small, units-zero, unitsIn}
 
 -- ---- a whole number within a half
@@ -132,26 +133,11 @@ round-large f s m (negsuc k) h l =
 
 -- ---- the sign
 
-neg-odd : (d : ℕ) (s : Bool) (q k l : ℕ) → odd d (not s) q k l ≡ neg (odd d s q k l)
-unfolding odd neg
-neg-odd d s zero k l = refl
-neg-odd d s (suc q) k l = refl
-
-neg-units : (f : Format) (s : Bool) (q k : ℕ) → units f (not s) q k ≡ neg (units f s q k)
-unfolding units neg
-neg-units f s q k = go (ltb (q * 2 ^ k) (overflow f))
-  where
-    go : (b : Bool) → cond b (odd (suc (prec f)) (not s) q k (low f)) (inf (not s)) ≡ neg (cond b (odd (suc (prec f)) s q k (low f)) (inf s))
-    go true = neg-odd (suc (prec f)) s q k (low f)
-    go false = refl
-
 pub round-neg : (f : Format) (x : Float) → roundIn f (neg x) ≡ neg (roundIn f x)
 unfolding roundIn neg
 round-neg f nan = refl
 round-neg f (inf s) = refl
-round-neg f (fin s m e) =
-    let q = nearestWhole (m * up e) (down e) in
-    round-is f (not s) q 1 ∙ neg-units f s _ _ ∙ ap neg (sym (round-is f s q 1))
+round-neg f (fin s m e) = neg-round f s (nearestWhole (m * up e) (down e)) 1
 
 -- ---- -0
 
@@ -173,32 +159,6 @@ round-minus-zero f s m e h t =
 
 -- ---- the order: a larger value rounds to no smaller one
 
--- ±p ≤ ±q
-abbrev Ordered : Bool → ℕ → Bool → ℕ → Type 0
-Ordered false p false q = p ≤ q
-Ordered false p true q = q + p ≤ 0
-Ordered true p false q = Unit {0}
-Ordered true p true q = q ≤ p
-
-le→ordered : (s : Bool) (m : ℕ) (e : ℤ) (t : Bool) (n : ℕ) (d : ℤ) → T (le (fin s m e) (fin t n d)) → Ordered s (m * up e * down d) t (n * up d * down e)
-le→ordered s m e t n d l = go s t (le→not-lt (fin s m e) (fin t n d) l)
-  where
-    go : (s t : Bool) → T (not (lt (fin t n d) (fin s m e))) → Ordered s (m * up e * down d) t (n * up d * down e)
-    go false false l = unfold lt in nltb→le (n * up d * down e) (m * up e * down d) l
-    go false true l = unfold lt in nltb→le 0 (n * up d * down e + m * up e * down d) l
-    go true false l = tt
-    go true true l = unfold lt in nltb→le (m * up e * down d) (n * up d * down e) l
-
-ordered→le : (s : Bool) (m : ℕ) (e : ℤ) (t : Bool) (n : ℕ) (d : ℤ) → Ordered s (m * up e * down d) t (n * up d * down e) → T (le (fin s m e) (fin t n d))
-unfolding isNan
-ordered→le s m e t n d l = not-lt→le (fin t n d) (fin s m e) tt tt (go s t l)
-  where
-    go : (s t : Bool) → Ordered s (m * up e * down d) t (n * up d * down e) → T (not (lt (fin t n d) (fin s m e)))
-    go false false l = unfold lt in le→nltb (n * up d * down e) (m * up e * down d) l
-    go false true l = unfold lt in le→nltb 0 (n * up d * down e + m * up e * down d) l
-    go true false l = unfold lt in tt
-    go true true l = unfold lt in le→nltb (m * up e * down d) (n * up d * down e) l
-
 nearest-mono : (a c b d : ℕ) → 0 < c → 0 < d → a * d ≤ b * c → nearestWhole a c ≤ nearestWhole b d
 nearest-mono a c b d C D h =
     div-mono (2 * a + c) (2 * c) (2 * b + d) (2 * d) (mul-pos (zero-lt-suc 1) C) (mul-pos (zero-lt-suc 1) D)
@@ -219,12 +179,6 @@ ordered-whole false true a c b d C D h = go (a * d) (b * c) (nearestWhole a c) (
     go x y p q f g h = omega (arith, f (omega arith), g (omega arith))
 ordered-whole true false a c b d C D h = tt
 ordered-whole true true a c b d C D h = nearest-mono b d a c D C h
-
-ordered-scaled : (s t : Bool) (p q k : ℕ) → Ordered s p t q → Ordered s (p * k) t (q * k)
-ordered-scaled false false p q k h = mul-le-mul-right k h
-ordered-scaled false true p q k h = omega (arith, add-mul q p k, mul-le-mul-right k h, zero-mul k)
-ordered-scaled true false p q k h = tt
-ordered-scaled true true p q k h = mul-le-mul-right k h
 
 of-values : (x y : Float) (s t : Bool) (p q : ℕ) → HasValue x s p 1 → HasValue y t q 1 → Ordered s p t q → T (le x y)
 of-values nan y s t p q v w h = absurd v
