@@ -1,10 +1,11 @@
 -- Laws about the definitions of `leaves`, by subject. What two functions' proofs need, and what the layers above cite, stands here.
 
--- values of a format, their order, also as signed fractions, their signs, the operations that keep the order, a NaN's patterns
+-- values of a format, their order, also as signed fractions, their signs, the operations that keep both, a NaN's patterns
 pub mod Values
 pub mod Order
 pub mod Fractions
 pub mod Signs
+pub mod Scaling
 pub mod Monotone
 pub mod Patterns
 -- smaller-of and larger-of; folds in any order

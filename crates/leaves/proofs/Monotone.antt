@@ -4,33 +4,23 @@
 use mathlib.Core.Path.{_≡_, refl, sym, ap, _∙_, subst, subst₂}
 use mathlib.Core.Logic.{inl, inr}
 use mathlib.Core.Bool.{Bool, true, false, not, cond, true≢false}
-use Prim.Native.Nat.{ℕ, suc, _+_, _-_, _*_, _^_, _≤_, _<_}
-use native.Mathlib.Nat.{eq-zero-or-pos, le-refl, mul-comm, mul-mul-mul-comm, mul-pos, zero-mul}
+use Prim.Native.Nat.{ℕ, _+_, _-_, _*_, _≤_, _<_}
+use native.Mathlib.Nat.{eq-zero-or-pos, le-refl, mul-comm, mul-mul-mul-comm, mul-pos}
 use native.Mathlib.Omega.{arith}
 use lib.IntN.{ℤ, pos}
-use lib.Dec.{T, ltb, eqb, eqb→eq, lt→ltb, ltb→lt, nltb→le}
-use lib.Pow.{pow-pos}
-use lib.Ieee.{Float, nan, inf, fin, Format, prec, emax, low, up, down, ofBits, round, neg, sum, add, sub, mul, div, unlike, fits, isNan, lt, le}
-use lib.Ieee.Exact.{round-exact}
-use lib.Ieee.Fits.{down-pos, round-fits}
+use lib.Dec.{T, ltb, ltb→lt, nltb→le}
+use lib.Ieee.{Float, nan, inf, fin, Format, up, down, round, neg, sum, add, sub, mul, div, isNan, le}
+use lib.Ieee.Fits.{down-pos}
 use lib.Ieee.Order.{round-mono}
-use lib.Ieee.Positive.{positive, num, den, den-pos, first-pos, own-value, value-pos}
+use lib.Ieee.Positive.{positive, num, den, den-pos}
 use lib.Ieee.Scale.{finite}
-use Rattle.leaves.specs.Constants as constants
 use Rattle.leaves.proofs.Fractions.{Ordered, Sums, le→ordered, neg-mono, ordered→le, ordered-scaled, sums-ordered, sums-scaled}
-use Rattle.leaves.proofs.Order.{between-finite, le-left, le-right, le-self, lt→le, neg-finite}
-use Rattle.leaves.proofs.Signs.{neg-round, round-sign}
-use Rattle.leaves.proofs.Values.{same-value, sign}
+use Rattle.leaves.proofs.Order.{le-left, le-right, le-self, neg-finite}
+use Rattle.leaves.proofs.Scaling.{div-of-finite, div-of-inf, mul-of-finite, mul-of-inf, size-above}
+use Rattle.leaves.proofs.Signs.{neg-round, round-of-none, round-sign}
+use Rattle.leaves.proofs.Values.{sign}
 
 -- ---- a signed fraction, rounded
-
--- 0 / c keeps its sign
-pub round-of-none : (f : Format) (s : Bool) (c : ℕ) → 0 < c → round f s 0 c ≡ fin s 0 (pos 0)
-unfolding fits
-round-of-none f s c C =
-    same-value f (round f s 0 c) (fin s 0 (pos 0)) s 0 c C (round-fits f s 0 c) tt
-    (round-exact f s 0 c 0 0 C (pow-pos (prec f)) (pow-pos (low f + suc (emax f))) (zero-mul (2 ^ low f) ∙ sym (zero-mul c)))
-    (refl, zero-mul c ∙ sym (zero-mul 1))
 
 neg-number : (x : Float) → T (not (isNan x)) → T (not (isNan (neg x)))
 unfolding neg isNan
@@ -221,28 +211,7 @@ pub sub-anti : (f : Format) (c x y : Float) → T (finite c) → T (le x y) → 
 unfolding sub
 sub-anti f c x y h l = add-mono-second f c (neg y) (neg x) h (neg-mono x y l)
 
--- ---- a value that is finite and above zero, by tests
-
-pub positive-of-lt : (p : Float) → T (finite p) → T (lt constants.zero p) → T (positive p)
-unfolding lt ofBits
-positive-of-lt nan h l = l
-positive-of-lt (inf s) h l = absurd h
-positive-of-lt (fin true n d) h l = l
-positive-of-lt (fin false n d) h l = lt→ltb 0 n (first-pos n (up d) (first-pos (n * up d) 1 (some (0 * down d) (n * up d * 1) (ltb→lt (0 * down d) (n * up d * 1) l))))
-  where
-    some : (a b : ℕ) → a < b → 0 < b
-    some a b h = omega arith
-
-pub positive-of-tests : (limit p : Float) → T (finite limit) → T (lt constants.zero p) → T (le p limit) → T (positive p)
-positive-of-tests limit p h l k = positive-of-lt p (between-finite constants.zero p limit zero-finite h (lt→le constants.zero p l) k) l
-  where
-    zero-finite : T (finite constants.zero)
-    zero-finite = unfold ofBits in tt
-
 -- ---- products with, and quotients by, a value above zero
-
-size-above : (p : Float) → T (positive p) → 0 < num p
-size-above p h = value-pos p (num p) (den p) h (den-pos p) (own-value p h)
 
 -- an operation that multiplies by i / j
 module _ (f : Format) (i j : ℕ) (J : 0 < j) (op : Float → Float) (ends : (s : Bool) → op (inf s) ≡ inf s) (is : (s : Bool) (m : ℕ) (e : ℤ) → op (fin s m e) ≡ round f s (m * up e * i) (down e * j)) where
@@ -263,51 +232,6 @@ module _ (f : Format) (i j : ℕ) (J : 0 < j) (op : Float → Float) (ends : (s 
       subst₂ (λ (x y : Float). T (le x y)) (sym (is s m e)) (sym (is t n d))
       (round-ordered f s t (m * up e * i) (down e * j) (n * up d * i) (down d * j) (mul-pos (down-pos e) J) (mul-pos (down-pos d) J)
       (subst₂ (λ (x y : ℕ). Ordered s x t y) (mul-mul-mul-comm (m * up e) (down d) i j) (mul-mul-mul-comm (n * up d) (down e) i j) (ordered-scaled s t (m * up e * down d) (n * up d * down e) (i * j) (le→ordered s m e t n d l))))
-
-like : (s : Bool) → unlike s false ≡ s
-like true = refl
-like false = refl
-
-not-none : (n : ℕ) → T (ltb 0 n) → eqb n 0 ≡ false
-not-none n h = go (eqb n 0) (λ t. clash (ltb→lt 0 n h) (eqb→eq n 0 t))
-  where
-    clash : 0 < n → n ≡ 0 → ⊥
-    clash l z = omega arith
-
-    go : (b : Bool) → (T b → ⊥) → b ≡ false
-    go true k = absurd (k tt)
-    go false k = refl
-
-pub mul-of-inf : (f : Format) (p : Float) → T (positive p) → (s : Bool) → mul f (inf s) p ≡ inf s
-unfolding mul
-mul-of-inf f nan h s = absurd h
-mul-of-inf f (inf t) h s = absurd h
-mul-of-inf f (fin true n d) h s = absurd h
-mul-of-inf f (fin false n d) h s = ap (λ (b : Bool). cond b nan (inf (unlike s false))) (not-none n h) ∙ ap inf (like s)
-
-pub mul-of-finite : (f : Format) (p : Float) → T (positive p) → (s : Bool) (m : ℕ) (e : ℤ) → mul f (fin s m e) p ≡ round f s (m * up e * num p) (down e * den p)
-unfolding mul
-mul-of-finite f nan h s m e = absurd h
-mul-of-finite f (inf t) h s m e = absurd h
-mul-of-finite f (fin true n d) h s m e = absurd h
-mul-of-finite f (fin false n d) h s m e = ap (λ (t : Bool). round f t (m * up e * (n * up d)) (down e * down d)) (like s)
-
-pub div-of-inf : (f : Format) (p : Float) → T (positive p) → (s : Bool) → div f (inf s) p ≡ inf s
-unfolding div
-div-of-inf f nan h s = absurd h
-div-of-inf f (inf t) h s = absurd h
-div-of-inf f (fin true n d) h s = absurd h
-div-of-inf f (fin false n d) h s = ap inf (like s)
-
-pub div-of-finite : (f : Format) (p : Float) → T (positive p) → (s : Bool) (m : ℕ) (e : ℤ) → div f (fin s m e) p ≡ round f s (m * up e * den p) (down e * num p)
-unfolding div
-div-of-finite f nan h s m e = absurd h
-div-of-finite f (inf t) h s m e = absurd h
-div-of-finite f (fin true n d) h s m e = absurd h
-div-of-finite f (fin false n d) h s m e =
-    ap (λ (b : Bool). cond b (cond (eqb m 0) nan (inf (unlike s false))) (round f (unlike s false) (m * up e * down d) (n * up d * down e))) (not-none n h)
-    ∙ ap (λ (t : Bool). round f t (m * up e * down d) (n * up d * down e)) (like s)
-    ∙ ap (round f s (m * up e * down d)) (mul-comm (n * up d) (down e))
 
 pub mul-mono : (f : Format) (x y p : Float) → T (positive p) → T (le x y) → T (le (mul f x p) (mul f y p))
 mul-mono f x y p h l = scaled-mono f (num p) (den p) (den-pos p) (λ (z : Float). mul f z p) (mul-of-inf f p h) (mul-of-finite f p h) x y l

@@ -3,18 +3,19 @@
 -- Two values that are neither a NaN nor -0, and neither of which is less than the other, are the same.
 use mathlib.Core.Path.{_≡_, refl, sym, ap, ap₂, _∙_, subst}
 use mathlib.Core.Logic.{_≢_, inl, inr}
-use mathlib.Core.Bool.{Bool, true, false, not, _&&_, _||_}
+use mathlib.Core.Bool.{Bool, true, false, not, _&&_, _||_, Bool·beq}
 use Prim.Native.Nat.{ℕ, zero, suc, _+_, _-_, _*_, _^_, _≤_, _<_, zero-le}
-use native.Mathlib.Nat.{add-comm, add-mul, eq-zero-or-pos, le-antisymm, le-of-lt, le-refl, lt-of-mul-lt-mul-right, mul-lt-mul-of-pos-right, mul-pos, zero-mul}
+use native.Mathlib.Nat.{add-comm, add-mul, eq-zero-or-pos, le-antisymm, le-of-lt, le-refl, lt-of-mul-lt-mul-right, mul-lt-mul-of-pos-right, mul-pos, zero-lt-suc, zero-mul}
 use native.Mathlib.Omega.{arith}
-use lib.IntN.{ℤ}
+use lib.IntN.{ℤ, pos}
 use lib.Dec.{T, T-not, not-T, ltb, eqb, eqb→eq, lt→ltb, ltb→lt, nltb→le}
 use lib.Arith.{le→nltb}
 use lib.Pow.{pow-pos}
-use lib.Ieee.{Float, nan, inf, fin, Format, low, up, down, neg, fits, isNan, lt, eq, le}
-use lib.Ieee.Fits.{and-i, and-l, and-r, down-pos, eq→eqb}
+use lib.Ieee.{Float, nan, inf, fin, Format, low, up, down, ofBits, neg, fits, isNan, level, lt, eq, le}
+use lib.Ieee.Fits.{and-i, and-l, and-r, down-pos, eq→eqb, neg-fits, up-pos}
 use lib.Ieee.Scale.{finite, overflow}
-use Rattle.leaves.proofs.Values.{same-units, units-over, units-over-swapped, units-small, units-zero, unitsIn}
+use Rattle.leaves.specs.Constants as constants
+use Rattle.leaves.proofs.Values.{same-units, sign, units-over, units-over-swapped, units-small, units-zero, unitsIn, zero-units}
 
 abbrev pub minusZero : Float → Bool
 minusZero nan = false
@@ -249,6 +250,31 @@ pub le-antisym : (x y : Float) → T (le x y) → T (le y x) → T (eq x y)
 unfolding le
 le-antisym x y p q = or-rest (lt x y) (eq x y) (le→not-lt y x q) p
 
+opposite : (a b : ℕ) → T (eqb a b && eqb a 0) → T (eqb b a && eqb b 0)
+opposite a b h =
+    let p : a ≡ b = eqb→eq a b (and-l (eqb a b) (eqb a 0) h) in
+    let q : a ≡ 0 = eqb→eq a 0 (and-r (eqb a b) (eqb a 0) h) in
+    and-i (eqb b a) (eqb b 0) (eq→eqb (sym p)) (eq→eqb (sym p ∙ q))
+
+level-sym : (s t : Bool) (a b : ℕ) → T (level s a t b) → T (level t b s a)
+level-sym true true a b h = and-i (eqb b a) true (eq→eqb (sym (eqb→eq a b (and-l (eqb a b) true h)))) tt
+level-sym false false a b h = and-i (eqb b a) true (eq→eqb (sym (eqb→eq a b (and-l (eqb a b) true h)))) tt
+level-sym true false a b h = opposite a b h
+level-sym false true a b h = opposite a b h
+
+pub eq-sym : (x y : Float) → T (eq x y) → T (eq y x)
+unfolding eq
+eq-sym nan y h = absurd h
+eq-sym (inf s) nan h = h
+eq-sym (inf true) (inf true) h = tt
+eq-sym (inf true) (inf false) h = h
+eq-sym (inf false) (inf true) h = h
+eq-sym (inf false) (inf false) h = tt
+eq-sym (inf s) (fin t n d) h = h
+eq-sym (fin s m e) nan h = h
+eq-sym (fin s m e) (inf t) h = h
+eq-sym (fin s m e) (fin t n d) h = level-sym s t (m * up e * down d) (n * up d * down e) h
+
 pub lt-asym : (x y : Float) → T (lt x y) → T (lt y x) → ⊥
 lt-asym x y l = T-not (lt y x) (le→not-lt x y (lt→le x y l))
 
@@ -257,6 +283,9 @@ lt-irrefl x l = lt-asym x x l l
 
 pub le-self : (x : Float) → T (not (isNan x)) → T (le x x)
 le-self x h = not-lt→le x x h h (not-T (lt x x) (lt-irrefl x))
+
+pub eq-self : (x : Float) → T (not (isNan x)) → T (eq x x)
+eq-self x h = le-antisym x x (le-self x h) (le-self x h)
 
 -- ---- what lies between finite values is finite
 
@@ -350,3 +379,53 @@ same-place f (fin true m e) (fin true n d) h k _ _ a b q =
 -- two values that are neither a NaN nor -0, neither of them less than the other
 pub same : (f : Format) (x y : Float) → T (fits f x) → T (fits f y) → T (not (isNan x)) → T (not (isNan y)) → T (not (minusZero x)) → T (not (minusZero y)) → T (not (lt x y)) → T (not (lt y x)) → x ≡ y
 same f x y h k n o a b p q = same-place f x y h k n o a b (le-antisymm (le→place f x y h k (not-lt→le y x o n q)) (le→place f y x k h (not-lt→le x y n o p)))
+
+-- ---- zeros
+
+zero-held : (f : Format) → T (fits f constants.zero)
+unfolding fits ofBits
+zero-held f = tt
+
+-- what is equal to 0 is the zero of its sign
+pub zero-of-eq : (f : Format) (x : Float) → T (fits f x) → T (eq x constants.zero) → x ≡ fin (sign x) 0 (pos 0)
+unfolding eq ofBits
+zero-of-eq f nan h e = absurd e
+zero-of-eq f (inf s) h e = absurd e
+zero-of-eq f (fin s zero e) h l = units-zero f s zero e h (zero-units f s e)
+zero-of-eq f (fin s (suc m) e) h l =
+    absurd (none (suc m * up e) (0 * down e) (mul-pos (zero-lt-suc m) (up-pos e)) (zero-mul (down e)) (eqb→eq (suc m * up e * 1) (0 * down e) (and-l (eqb (suc m * up e * 1) (0 * down e)) (Bool·beq s false || eqb (suc m * up e * 1) 0) l)))
+  where
+    none : (a b : ℕ) → 0 < a → b ≡ 0 → a * 1 ≡ b → ⊥
+    none a b h k e = omega arith
+
+-- what lies between a zero and its opposite is a zero
+pub between-zeros : (f : Format) (z x : Float) → T (fits f z) → T (fits f x) → T (eq z constants.zero) → T (le (neg z) x) → T (le x z) → T (eq x constants.zero)
+between-zeros f z x h k e p q =
+    let o = constants.zero in
+    le-antisym x o (le-trans f x z o k h (zero-held f) q (eq→le z o e))
+    (le-trans f o (neg z) x (zero-held f) (neg-fits f z h) k (subst (λ (w : Float). T (le o (neg w))) (sym (zero-of-eq f z h e)) (opposite-zero (sign z))) p)
+  where
+    opposite-zero : (s : Bool) → T (le constants.zero (neg (fin s 0 (pos 0))))
+    opposite-zero true = unfold le ofBits neg in tt
+    opposite-zero false = unfold le ofBits neg in tt
+
+zero-up : (e : ℤ) → T (eq (fin true zero e) constants.zero)
+unfolding eq ofBits
+zero-up e = and-i (eqb (0 * up e * 1) (0 * down e)) (eqb (0 * up e * 1) 0) (eq→eqb {a = 0 * up e * 1} {b = 0 * down e} (omega (arith, zero-mul (up e), zero-mul (down e)))) (eq→eqb {a = 0 * up e * 1} {b = 0} (omega (arith, zero-mul (up e))))
+
+pub clear-of-nonzero : (x : Float) → T (not (eq x constants.zero)) → T (not (minusZero x))
+clear-of-nonzero nan h = tt
+clear-of-nonzero (inf s) h = tt
+clear-of-nonzero (fin false m e) h = tt
+clear-of-nonzero (fin true zero e) h = T-not (eq (fin true zero e) constants.zero) h (zero-up e)
+clear-of-nonzero (fin true (suc m) e) h = tt
+
+-- of two values that are equal and no zeros each is the other
+pub same-nonzero : (f : Format) (x y : Float) → T (fits f x) → T (fits f y) → T (not (eq x constants.zero)) → T (le x y) → T (le y x) → y ≡ x
+same-nonzero f x y h k n p q =
+    same f y x k h (le-right x y p) (le-left x y p) (clear-of-nonzero y (not-T (eq y constants.zero) also)) (clear-of-nonzero x n) (le→not-lt x y p) (le→not-lt y x q)
+  where
+    also : T (eq y constants.zero) → ⊥
+    also e =
+        let z = constants.zero in
+        T-not (eq x z) n (le-antisym x z (le-trans f x y z h k (zero-held f) p (eq→le y z e)) (le-trans f z y x (zero-held f) k h (eq→le z y (eq-sym y z e)) q))

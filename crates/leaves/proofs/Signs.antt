@@ -6,17 +6,17 @@ use mathlib.Core.Bool.{Bool, true, false, not, _&&_, cond, true≢false}
 use Prim.Native.Nat.{ℕ, zero, suc, _+_, _-_, _*_, _/_, _%_, _^_, _≤_, _<_, compare}
 use native.Mathlib.Nat.{add-mul, div-div-eq-div-mul, le-div-iff-mul-le, le-of-eq, le-trans, lt-irrefl, lt-of-lt-of-le, lt-of-mul-lt-mul-right, lt-of-not-le, mul-comm, mul-le-mul-right, mul-lt-mul-of-pos-right, mul-pos, mul-sub, one-mul, suc-mul, zero-mul}
 use native.Mathlib.Omega.{arith}
-use lib.IntN.{ℤ}
+use lib.IntN.{ℤ, pos}
 use lib.Dec.{T, ltb, ltb→lt}
 use lib.Pow.{pow-mono, pow-pos}
-use lib.Ieee.{Float, nan, inf, fin, Format, prec, low, up, down, size, odd, units, round, neg, sum, add, sub, mul, fits}
+use lib.Ieee.{Float, nan, inf, fin, Format, prec, emax, low, up, down, size, odd, units, round, neg, sum, add, sub, mul, fits}
 use lib.Ieee.Digits.{size-lt, size-reaches}
-use lib.Ieee.Exact.{HasValue, odd-sign}
-use lib.Ieee.Fits.{down-pos, neg-fits, round-is, two, two-le-pos}
+use lib.Ieee.Exact.{HasValue, odd-sign, round-exact}
+use lib.Ieee.Fits.{down-pos, neg-fits, round-fits, round-is, two, two-le-pos}
 use lib.Ieee.Nearest.{closest, nearest-ge}
 use lib.Ieee.Scale.{overflow}
 use Rattle.leaves.proofs.Order.{minusZero, negative-units}
-use Rattle.leaves.proofs.Values.{sign, units-over, units-over-swapped, unitsIn}
+use Rattle.leaves.proofs.Values.{same-value, sign, units-over, units-over-swapped, unitsIn}
 
 -- ---- the sign of what is rounded
 
@@ -35,6 +35,14 @@ units-signed f s q k = go (ltb (q * 2 ^ k) (overflow f))
 
 pub round-sign : (f : Format) (s : Bool) (num den : ℕ) → sign (round f s num den) ≡ s
 round-sign f s num den = ap sign (round-is f s num den) ∙ units-signed f s (closest (num * 2 ^ low f) (den * 2 ^ (size (num * 2 ^ low f / den) - prec f))) (size (num * 2 ^ low f / den) - prec f)
+
+-- 0 / c keeps its sign
+pub round-of-none : (f : Format) (s : Bool) (c : ℕ) → 0 < c → round f s 0 c ≡ fin s 0 (pos 0)
+unfolding fits
+round-of-none f s c C =
+    same-value f (round f s 0 c) (fin s 0 (pos 0)) s 0 c C (round-fits f s 0 c) tt
+    (round-exact f s 0 c 0 0 C (pow-pos (prec f)) (pow-pos (low f + suc (emax f))) (zero-mul (2 ^ low f) ∙ sym (zero-mul c)))
+    (refl, zero-mul c ∙ sym (zero-mul 1))
 
 neg-odd : (d : ℕ) (s : Bool) (q k l : ℕ) → odd d (not s) q k l ≡ neg (odd d s q k l)
 unfolding odd neg

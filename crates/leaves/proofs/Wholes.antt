@@ -22,8 +22,8 @@ use Rattle.leaves.specs.Round.{nearestWhole, roundIn, roundOf}
 use Rattle.leaves.proofs.Fractions.{Ordered, le→ordered, ordered→le, ordered-scaled}
 use Rattle.leaves.proofs.Order.{minusZero}
 use Rattle.leaves.proofs.Packing.{prec-hid}
-use Rattle.leaves.proofs.Signs.{neg-round}
-use Rattle.leaves.proofs.Values.{held, units-small, units-zero, unitsIn}
+use Rattle.leaves.proofs.Signs.{neg-round, round-sign}
+use Rattle.leaves.proofs.Values.{held, sign, units-small, units-zero, unitsIn}
 
 -- ---- a whole number within a half
 
@@ -138,6 +138,12 @@ unfolding roundIn neg
 round-neg f nan = refl
 round-neg f (inf s) = refl
 round-neg f (fin s m e) = neg-round f s (nearestWhole (m * up e) (down e)) 1
+
+pub round-keeps-sign : (f : Format) (x : Float) → sign (roundIn f x) ≡ sign x
+unfolding roundIn
+round-keeps-sign f nan = refl
+round-keeps-sign f (inf s) = refl
+round-keeps-sign f (fin s m e) = round-sign f s (nearestWhole (m * up e) (down e)) 1
 
 -- ---- -0
 

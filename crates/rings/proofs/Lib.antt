@@ -14,6 +14,8 @@ pub mod Axes
 pub mod Ends
 pub mod Seams
 pub mod Opening
+-- whole turns and copies, by the order
+pub mod WholeTurns
 -- folds over a ring's segments: how large a winding can be, the least distance, and the same by keys
 pub mod RingFolds
 pub mod Windings
