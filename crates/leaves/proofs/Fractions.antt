@@ -1,9 +1,10 @@
 -- Signed fractions. Two finite values are in order exactly where their numerators over a common denominator are, and a number above 0 may be multiplied into both.
 -- What ±a adds and what it takes off make of that order, and of a sum, an order and an equation between natural numbers: so sums of parts in order are in order.
 use mathlib.Core.Path.{_≡_, refl, sym, ap, _∙_}
+use mathlib.Core.Logic.{inl, inr}
 use mathlib.Core.Bool.{Bool, true, false, not}
-use Prim.Native.Nat.{ℕ, _+_, _*_, _≤_}
-use native.Mathlib.Nat.{add-mul, mul-le-mul-right, zero-mul}
+use Prim.Native.Nat.{ℕ, _+_, _*_, _≤_, _<_}
+use native.Mathlib.Nat.{add-mul, eq-zero-or-pos, mul-le-mul-right, mul-pos, zero-mul}
 use native.Mathlib.Omega.{arith}
 use lib.IntN.{ℤ}
 use lib.Dec.{T, nltb→le}
@@ -44,6 +45,9 @@ ordered-scaled false false p q k h = mul-le-mul-right k h
 ordered-scaled false true p q k h = omega (arith, add-mul q p k, mul-le-mul-right k h, zero-mul k)
 ordered-scaled true false p q k h = tt
 ordered-scaled true true p q k h = mul-le-mul-right k h
+
+pub none-left : (a d : ℕ) → 0 < d → a * d ≤ 0 → a ≡ 0
+none-left a d D h = elim (eq-zero-or-pos a) [ inl z ↦ z | inr l ↦ omega (arith, mul-pos l D) ]
 
 ordered-neg : (s t : Bool) (p q : ℕ) → Ordered s p t q → Ordered (not t) q (not s) p
 ordered-neg false false p q h = h

@@ -2,10 +2,9 @@
 -- round, and at the middle a zero of either sign equals the other. A sum is a signed fraction rounded once, and so is a product with or a quotient by a value above 0: each keeps the order
 -- because its exact fraction does. An infinity among the operands stays at its end of the order; a sum is a NaN only of two opposite infinities.
 use mathlib.Core.Path.{_≡_, refl, sym, ap, _∙_, subst, subst₂}
-use mathlib.Core.Logic.{inl, inr}
 use mathlib.Core.Bool.{Bool, true, false, not, cond, true≢false}
 use Prim.Native.Nat.{ℕ, _+_, _-_, _*_, _≤_, _<_}
-use native.Mathlib.Nat.{eq-zero-or-pos, le-refl, mul-comm, mul-mul-mul-comm, mul-pos}
+use native.Mathlib.Nat.{le-refl, mul-comm, mul-mul-mul-comm, mul-pos}
 use native.Mathlib.Omega.{arith}
 use lib.IntN.{ℤ, pos}
 use lib.Dec.{T, ltb, ltb→lt, nltb→le}
@@ -14,8 +13,8 @@ use lib.Ieee.Fits.{down-pos}
 use lib.Ieee.Order.{round-mono}
 use lib.Ieee.Positive.{positive, num, den, den-pos}
 use lib.Ieee.Scale.{finite}
-use Rattle.leaves.proofs.Fractions.{Ordered, Sums, le→ordered, neg-mono, ordered→le, ordered-scaled, sums-ordered, sums-scaled}
-use Rattle.leaves.proofs.Order.{le-left, le-right, le-self, neg-finite}
+use Rattle.leaves.proofs.Fractions.{Ordered, Sums, le→ordered, neg-mono, none-left, ordered→le, ordered-scaled, sums-ordered, sums-scaled}
+use Rattle.leaves.proofs.Order.{highest, le-left, le-right, le-self, lowest, neg-finite}
 use Rattle.leaves.proofs.Scaling.{div-of-finite, div-of-inf, mul-of-finite, mul-of-inf, size-above}
 use Rattle.leaves.proofs.Signs.{neg-round, round-of-none, round-sign}
 use Rattle.leaves.proofs.Values.{sign}
@@ -57,34 +56,15 @@ zeros-level : T (le (fin false 0 (pos 0)) (fin true 0 (pos 0)))
 unfolding le
 zeros-level = tt
 
-none : (a d : ℕ) → 0 < d → a * d ≤ 0 → a ≡ 0
-none a d D h = elim (eq-zero-or-pos a) [ inl z ↦ z | inr l ↦ omega (arith, mul-pos l D) ]
-
 pub round-ordered : (f : Format) (s t : Bool) (a c b d : ℕ) → 0 < c → 0 < d → Ordered s (a * d) t (b * c) → T (le (round f s a c) (round f t b d))
 round-ordered f false false a c b d C D h = round-mono f a c b d C D h
 round-ordered f false true a c b d C D h =
-    let p : a ≡ 0 = none a d D (omega arith) in
-    let q : b ≡ 0 = none b c C (omega arith) in
+    let p : a ≡ 0 = none-left a d D (omega arith) in
+    let q : b ≡ 0 = none-left b c C (omega arith) in
     subst₂ (λ (x y : Float). T (le x y)) (sym (ap (λ (z : ℕ). round f false z c) p ∙ round-of-none f false c C)) (sym (ap (λ (z : ℕ). round f true z d) q ∙ round-of-none f true d D)) zeros-level
 round-ordered f true false a c b d C D h = le-by-signs (round f true a c) (round f false b d) (round-number f true a c C) (round-number f false b d D) (round-sign f true a c) (round-sign f false b d)
 round-ordered f true true a c b d C D h =
     subst₂ (λ (x y : Float). T (le x y)) (sym (neg-round f false a c)) (sym (neg-round f false b d)) (neg-mono (round f false b d) (round f false a c) (round-mono f b d a c D C h))
-
--- ---- the infinities are the ends
-
-lowest : (z : Float) → T (not (isNan z)) → T (le (inf true) z)
-unfolding isNan le
-lowest nan n = n
-lowest (inf true) n = tt
-lowest (inf false) n = tt
-lowest (fin s m e) n = tt
-
-highest : (z : Float) → T (not (isNan z)) → T (le z (inf false))
-unfolding isNan le
-highest nan n = n
-highest (inf true) n = tt
-highest (inf false) n = tt
-highest (fin s m e) n = tt
 
 -- ---- sums
 

@@ -287,6 +287,22 @@ le-self x h = not-lt→le x x h h (not-T (lt x x) (lt-irrefl x))
 pub eq-self : (x : Float) → T (not (isNan x)) → T (eq x x)
 eq-self x h = le-antisym x x (le-self x h) (le-self x h)
 
+-- ---- the infinities are the ends
+
+pub lowest : (z : Float) → T (not (isNan z)) → T (le (inf true) z)
+unfolding isNan le
+lowest nan n = n
+lowest (inf true) n = tt
+lowest (inf false) n = tt
+lowest (fin s m e) n = tt
+
+pub highest : (z : Float) → T (not (isNan z)) → T (le z (inf false))
+unfolding isNan le
+highest nan n = n
+highest (inf true) n = tt
+highest (inf false) n = tt
+highest (fin s m e) n = tt
+
 -- ---- what lies between finite values is finite
 
 pub between-finite : (a x b : Float) → T (finite a) → T (finite b) → T (le a x) → T (le x b) → T (finite x)

@@ -1,11 +1,11 @@
 -- The rounding to a whole number. A value's magnitude is a fraction a / c, and `roundIn` gives it the whole number q with 2a - c < 2qc ≤ 2a + c: q is no more than a half away from a / c.
 -- So no whole number is nearer, and of two that are as near q is the one further from zero. Below 2 ^ prec the format holds every whole number, and a value beyond has no fraction and is
 -- its own q: so the format holds q, and nothing is rounded a second time.
-use mathlib.Core.Path.{_≡_, refl, sym, ap, ap₂, _∙_, subst, subst₂}
+use mathlib.Core.Path.{_≡_, refl, sym, ap, ap₂, _∙_, subst}
 use mathlib.Core.Logic.{inl, inr}
 use mathlib.Core.Bool.{Bool, true, false}
 use Prim.Native.Nat.{ℕ, zero, suc, _+_, _*_, _/_, _^_, _≤_, _<_, zero-le, suc-le-suc}
-use native.Mathlib.Nat.{add-mul, div-lt-iff-lt-mul, div-mul-le-self, div-one, eq-of-mul-eq-mul-right, eq-or-lt-of-le, eq-zero-or-pos, le-antisymm, le-of-eq, le-of-lt, le-of-mul-le-mul-right, le-refl, le-trans, lt-irrefl, lt-of-lt-of-le, lt-of-not-le, mul-assoc, mul-comm, mul-le-mul-left, mul-le-mul-right, mul-left-comm, mul-mul-mul-comm, mul-one, mul-pos, suc-mul, zero-div, zero-lt-suc, zero-mul}
+use native.Mathlib.Nat.{add-mul, div-lt-iff-lt-mul, div-mul-le-self, div-one, eq-of-mul-eq-mul-right, eq-or-lt-of-le, eq-zero-or-pos, le-antisymm, le-of-eq, le-of-lt, le-refl, le-trans, lt-irrefl, lt-of-lt-of-le, lt-of-not-le, mul-assoc, mul-comm, mul-le-mul-left, mul-le-mul-right, mul-left-comm, mul-mul-mul-comm, mul-one, mul-pos, suc-mul, zero-div, zero-lt-suc, zero-mul}
 use native.Mathlib.Decide.{decLe}
 use native.Mathlib.Omega.{arith}
 use lib.IntN.{ℤ, pos, negsuc}
@@ -19,8 +19,9 @@ use lib.Ieee.Nearest.{div-mono}
 use lib.Ieee.Scale.{overflow}
 use Rattle.leaves.specs.Nearest.{gap, NearestWhole}
 use Rattle.leaves.specs.Round.{nearestWhole, roundIn, roundOf}
-use Rattle.leaves.proofs.Fractions.{Ordered, le→ordered, ordered→le, ordered-scaled}
-use Rattle.leaves.proofs.Order.{minusZero}
+use Rattle.leaves.proofs.Fractions.{Ordered, le→ordered, none-left, ordered-scaled}
+use Rattle.leaves.proofs.Monotone.{round-number, round-ordered}
+use Rattle.leaves.proofs.Order.{highest, lowest, minusZero}
 use Rattle.leaves.proofs.Packing.{prec-hid}
 use Rattle.leaves.proofs.Signs.{neg-round, round-sign}
 use Rattle.leaves.proofs.Values.{held, sign, units-small, units-zero, unitsIn}
@@ -173,45 +174,27 @@ nearest-mono a c b d C D h =
     parts : (a c d : ℕ) → (2 * a + c) * (2 * d) ≡ 4 * (a * d) + 2 * (c * d)
     parts a c d = add-mul (2 * a) c (2 * d) ∙ ap₂ (λ (x y : ℕ). x + y) (mul-mul-mul-comm 2 a 2 d) (mul-left-comm c 2 d)
 
-none-left : (a d : ℕ) → 0 < d → a * d ≤ 0 → a ≤ 0
-none-left a d D h = le-of-mul-le-mul-right (le-trans h zero-le) D
-
--- of two fractions in order the whole numbers are in order, and so are the values that have them
+-- of two fractions in order the whole numbers are in order, and so are the values that they round to
 ordered-whole : (s t : Bool) (a c b d : ℕ) → 0 < c → 0 < d → Ordered s (a * d) t (b * c) → Ordered s (nearestWhole a c) t (nearestWhole b d)
 ordered-whole false false a c b d C D h = nearest-mono a c b d C D h
-ordered-whole false true a c b d C D h = go (a * d) (b * c) (nearestWhole a c) (nearestWhole b d) (λ (l : a * d ≤ 0). le-trans (at-most a c C) (none-left a d D l)) (λ (l : b * c ≤ 0). le-trans (at-most b d D) (none-left b c C l)) h
+ordered-whole false true a c b d C D h = go (a * d) (b * c) (nearestWhole a c) (nearestWhole b d) (λ (l : a * d ≤ 0). le-trans (at-most a c C) (le-of-eq (none-left a d D l))) (λ (l : b * c ≤ 0). le-trans (at-most b d D) (le-of-eq (none-left b c C l))) h
   where
     go : (x y p q : ℕ) → (x ≤ 0 → p ≤ 0) → (y ≤ 0 → q ≤ 0) → y + x ≤ 0 → q + p ≤ 0
     go x y p q f g h = omega (arith, f (omega arith), g (omega arith))
 ordered-whole true false a c b d C D h = tt
 ordered-whole true true a c b d C D h = nearest-mono b d a c D C h
 
-of-values : (x y : Float) (s t : Bool) (p q : ℕ) → HasValue x s p 1 → HasValue y t q 1 → Ordered s p t q → T (le x y)
-of-values nan y s t p q v w h = absurd v
-of-values (inf u) y s t p q v w h = absurd v
-of-values (fin u m e) nan s t p q v w h = absurd w
-of-values (fin u m e) (inf z) s t p q v w h = absurd w
-of-values (fin u m e) (fin z n d) s t p q v w h =
-    let a : m * up e * down d ≡ p * (down e * down d) = ap (λ (i : ℕ). i * down d) (sym (mul-one (m * up e)) ∙ v .1) ∙ mul-assoc p (down e) (down d) in
-    let b : n * up d * down e ≡ q * (down e * down d) = ap (λ (i : ℕ). i * down e) (sym (mul-one (n * up d)) ∙ w .1) ∙ mul-assoc q (down d) (down e) ∙ ap (λ (i : ℕ). q * i) (mul-comm (down d) (down e)) in
-    ordered→le u m e z n d (subst₂ (λ (i j : ℕ). Ordered u i z j) (sym a) (sym b) (ordered-scaled u z p q (down e * down d) (subst₂ (λ (i j : Bool). Ordered i p j q) (sym (v .0)) (sym (w .0)) h)))
-
-between : (x : Float) (s : Bool) (p : ℕ) → HasValue x s p 1 → T (le (inf true) x) × T (le x (inf false))
-unfolding le
-between nan s p v = absurd v
-between (inf u) s p v = absurd v
-between (fin u m e) s p v = (tt, tt)
-
-pub round-mono : (f : Format) (x y : Float) → T (fits f x) → T (fits f y) → T (le x y) → T (le (roundIn f x) (roundIn f y))
+pub round-mono : (f : Format) (x y : Float) → T (le x y) → T (le (roundIn f x) (roundIn f y))
 unfolding le roundIn
-round-mono f nan y h k l = absurd l
-round-mono f (inf s) nan h k l = absurd l
-round-mono f (inf s) (inf t) h k l = l
-round-mono f (inf true) (fin t n d) h k l = between (roundIn f (fin t n d)) t (nearestWhole (n * up d) (down d)) (round-value f t n d k) .0
-round-mono f (inf false) (fin t n d) h k l = absurd l
-round-mono f (fin s m e) nan h k l = absurd l
-round-mono f (fin s m e) (inf true) h k l = absurd l
-round-mono f (fin s m e) (inf false) h k l = between (roundIn f (fin s m e)) s (nearestWhole (m * up e) (down e)) (round-value f s m e h) .1
-round-mono f (fin s m e) (fin t n d) h k l =
-    of-values (roundIn f (fin s m e)) (roundIn f (fin t n d)) s t (nearestWhole (m * up e) (down e)) (nearestWhole (n * up d) (down d)) (round-value f s m e h) (round-value f t n d k)
-    (ordered-whole s t (m * up e) (down e) (n * up d) (down d) (down-pos e) (down-pos d) (le→ordered s m e t n d l))
+round-mono f nan y l = absurd l
+round-mono f (inf s) nan l = absurd l
+round-mono f (inf s) (inf t) l = l
+round-mono f (inf true) (fin t n d) l = lowest (roundIn f (fin t n d)) (round-number f t (nearestWhole (n * up d) (down d)) 1 (zero-lt-suc 0))
+round-mono f (inf false) (fin t n d) l = absurd l
+round-mono f (fin s m e) nan l = absurd l
+round-mono f (fin s m e) (inf true) l = absurd l
+round-mono f (fin s m e) (inf false) l = highest (roundIn f (fin s m e)) (round-number f s (nearestWhole (m * up e) (down e)) 1 (zero-lt-suc 0))
+round-mono f (fin s m e) (fin t n d) l =
+    let p = nearestWhole (m * up e) (down e) in
+    let q = nearestWhole (n * up d) (down d) in
+    round-ordered f s t p 1 q 1 (zero-lt-suc 0) (zero-lt-suc 0) (ordered-scaled s t p q 1 (ordered-whole s t (m * up e) (down e) (n * up d) (down d) (down-pos e) (down-pos d) (le→ordered s m e t n d l)))

@@ -7,7 +7,7 @@ use Prim.Native.Nat.{ℕ}
 use lib.Dec.{T}
 use lib.IntN.{ℤ, pos}
 use lib.Ieee.{Float, nan, inf, fin, binary64, ofBits, neg, add, sub, mul, div, fits, eq, le}
-use lib.Ieee.Fits.{add-fits, div-fits, mul-fits}
+use lib.Ieee.Fits.{add-fits, mul-fits}
 use lib.Ieee.Positive.{positive}
 use lib.Ieee.Scale.{finite}
 use Rattle.leaves.specs.Constants.{zero}
@@ -27,7 +27,7 @@ use Rattle.rings.specs.Turns.{turns}
 -- the number of turns
 count-mono : (x y period : Float) → T (positive period) → T (le x y) → T (le (roundOf (div binary64 x period)) (roundOf (div binary64 y period)))
 unfolding roundOf
-count-mono x y period h l = round-mono binary64 (div binary64 x period) (div binary64 y period) (div-fits binary64 x period) (div-fits binary64 y period) (div-mono binary64 x y period h l)
+count-mono x y period h l = round-mono binary64 (div binary64 x period) (div binary64 y period) (div-mono binary64 x y period h l)
 
 pub turns-mono : (x y period : Float) → T (positive period) → T (le x y) → T (le (turns x period) (turns y period))
 unfolding turns
