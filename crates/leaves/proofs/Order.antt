@@ -1,6 +1,7 @@
 -- The order of the values that a format holds, of either sign. `place` numbers them in order, from one infinity to the other, with one number for both zeros:
 -- so `lt` and `le` are transitive, and of two values that are no NaN either one is less or the other is less or equal.
 -- Two values that are neither a NaN nor -0, and neither of which is less than the other, are the same.
+-- What equals 0, or lies between a zero and its opposite, is a zero. So of two equal values that are no zeros each is the other.
 use mathlib.Core.Path.{_≡_, refl, sym, ap, ap₂, _∙_, subst}
 use mathlib.Core.Logic.{_≢_, inl, inr}
 use mathlib.Core.Bool.{Bool, true, false, not, _&&_, _||_, Bool·beq}

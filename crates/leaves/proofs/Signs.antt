@@ -1,6 +1,6 @@
 -- Which operations give no -0 and no negative value. A sum whose first part is not -0 is not -0: the exact sum of two values that a format holds is a whole number of the
 -- format's smallest value, so where it is not 0 it does not round to 0, and an exact 0 is -0 only where both parts are negative. A square, and a sum of two values that are not negative, has no sign.
--- Of the other sign a fraction rounds to the same magnitude.
+-- Of the other sign a fraction rounds to the same magnitude, and 0 to the zero of its sign.
 use mathlib.Core.Path.{_≡_, refl, sym, ap, ap₂, _∙_, subst}
 use mathlib.Core.Bool.{Bool, true, false, not, _&&_, cond, true≢false}
 use Prim.Native.Nat.{ℕ, zero, suc, _+_, _-_, _*_, _/_, _%_, _^_, _≤_, _<_, compare}
