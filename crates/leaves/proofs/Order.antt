@@ -403,6 +403,12 @@ zero-held : (f : Format) → T (fits f constants.zero)
 unfolding fits ofBits
 zero-held f = tt
 
+pub finite-of-zero : (x : Float) → T (eq x constants.zero) → T (finite x)
+unfolding eq ofBits
+finite-of-zero nan e = e
+finite-of-zero (inf s) e = e
+finite-of-zero (fin s m d) e = tt
+
 -- what is equal to 0 is the zero of its sign
 pub zero-of-eq : (f : Format) (x : Float) → T (fits f x) → T (eq x constants.zero) → x ≡ fin (sign x) 0 (pos 0)
 unfolding eq ofBits

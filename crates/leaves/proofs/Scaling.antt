@@ -1,6 +1,6 @@
 -- Products with and quotients by a value that is finite and above 0. Such a value is what the tests of a program say of it. It leaves an infinity and every sign as they are, and makes of a finite
 -- value one fraction, which is rounded once. A zero stays the zero of its sign; a product with 0 is one.
-use mathlib.Core.Path.{_≡_, refl, sym, ap, _∙_}
+use mathlib.Core.Path.{_≡_, refl, sym, ap, _∙_, subst}
 use mathlib.Core.Bool.{Bool, true, false, not, cond}
 use Prim.Native.Nat.{ℕ, _*_, _<_}
 use native.Mathlib.Nat.{mul-comm, mul-pos, mul-zero, zero-lt-suc, zero-mul}
@@ -83,6 +83,12 @@ div-of-finite f (fin false n d) h s m e =
     ap (λ (b : Bool). cond b (cond (eqb m 0) nan (inf (unlike s false))) (round f (unlike s false) (m * up e * down d) (n * up d * down e))) (not-none n h)
     ∙ ap (λ (t : Bool). round f t (m * up e * down d) (n * up d * down e)) (like s)
     ∙ ap (round f s (m * up e * down d)) (mul-comm (n * up d) (down e))
+
+-- only a finite value has a finite quotient
+pub finite-of-div : (f : Format) (x p : Float) → T (positive p) → T (finite (div f x p)) → T (finite x)
+finite-of-div f nan p h k = unfold div in k
+finite-of-div f (inf s) p h k = subst (λ (q : Float). T (finite q)) (div-of-inf f p h s) k
+finite-of-div f (fin s m e) p h k = tt
 
 -- ---- the sign
 

@@ -16,7 +16,7 @@ use lib.Ieee.Back.{round-whole, whole-unique}
 use lib.Ieee.Exact.{HasValue, round-exact}
 use lib.Ieee.Fits.{down-pos, round-fits as rounded-fits}
 use lib.Ieee.Nearest.{div-mono}
-use lib.Ieee.Scale.{overflow}
+use lib.Ieee.Scale.{finite, overflow}
 use Rattle.leaves.specs.Nearest.{gap, NearestWhole}
 use Rattle.leaves.specs.Round.{nearestWhole, roundIn, roundOf}
 use Rattle.leaves.proofs.Fractions.{Ordered, le→ordered, none-left, ordered-scaled}
@@ -198,3 +198,28 @@ round-mono f (fin s m e) (fin t n d) l =
     let p = nearestWhole (m * up e) (down e) in
     let q = nearestWhole (n * up d) (down d) in
     round-ordered f s t p 1 q 1 (zero-lt-suc 0) (zero-lt-suc 0) (ordered-scaled s t p q 1 (ordered-whole s t (m * up e) (down e) (n * up d) (down d) (down-pos e) (down-pos d) (le→ordered s m e t n d l)))
+
+-- ---- the same of `roundOf`
+
+pub f64-round-fits : (x : Float) → T (fits binary64 (roundOf x))
+unfolding roundOf
+f64-round-fits x = round-fits binary64 x
+
+pub f64-round-neg : (x : Float) → roundOf (neg x) ≡ neg (roundOf x)
+unfolding roundOf
+f64-round-neg x = round-neg binary64 x
+
+pub f64-round-keeps-sign : (x : Float) → sign (roundOf x) ≡ sign x
+unfolding roundOf
+f64-round-keeps-sign x = round-keeps-sign binary64 x
+
+pub f64-round-mono : (x y : Float) → T (le x y) → T (le (roundOf x) (roundOf y))
+unfolding roundOf
+f64-round-mono x y l = round-mono binary64 x y l
+
+-- only a finite value has a finite one
+pub f64-round-finite : (x : Float) → T (finite (roundOf x)) → T (finite x)
+unfolding roundOf roundIn
+f64-round-finite nan h = h
+f64-round-finite (inf s) h = h
+f64-round-finite (fin s m e) h = tt

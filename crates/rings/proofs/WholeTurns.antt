@@ -6,16 +6,16 @@ use mathlib.Core.Bool.{Bool, true, not}
 use Prim.Native.Nat.{ℕ}
 use lib.Dec.{T}
 use lib.IntN.{ℤ, pos}
-use lib.Ieee.{Float, nan, inf, fin, binary64, ofBits, neg, add, sub, mul, div, fits, eq, le}
+use lib.Ieee.{Float, nan, inf, fin, binary64, neg, add, sub, mul, div, fits, eq, le}
 use lib.Ieee.Fits.{add-fits, mul-fits}
 use lib.Ieee.Positive.{positive}
 use lib.Ieee.Scale.{finite}
 use Rattle.leaves.specs.Constants.{zero}
-use Rattle.leaves.specs.Round.{roundIn, roundOf}
-use Rattle.leaves.proofs.Order.{between-zeros, eq→le, eq-sym, le-trans, same-nonzero, within-finite, zero-of-eq}
+use Rattle.leaves.specs.Round.{roundOf}
+use Rattle.leaves.proofs.Order.{between-zeros, eq→le, eq-sym, finite-of-zero, le-trans, same-nonzero, within-finite, zero-of-eq}
 use Rattle.leaves.proofs.Monotone.{add-mono-second, div-mono, mul-mono, sub-mono}
-use Rattle.leaves.proofs.Scaling.{div-neg, div-of-inf, div-sign, mul-by-zero, mul-of-zero}
-use Rattle.leaves.proofs.Wholes.{round-fits, round-keeps-sign, round-mono, round-neg}
+use Rattle.leaves.proofs.Scaling.{div-neg, div-sign, finite-of-div, mul-by-zero, mul-of-zero}
+use Rattle.leaves.proofs.Wholes.{f64-round-finite, f64-round-fits, f64-round-keeps-sign, f64-round-mono, f64-round-neg}
 use Rattle.sheet.specs.Content.{Point, point}
 use Rattle.rings.specs.Clearance.{copy, offset}
 use Rattle.rings.specs.Coverage.{gained, middle}
@@ -26,8 +26,7 @@ use Rattle.rings.specs.Turns.{turns}
 
 -- the number of turns
 count-mono : (x y period : Float) → T (positive period) → T (le x y) → T (le (roundOf (div binary64 x period)) (roundOf (div binary64 y period)))
-unfolding roundOf
-count-mono x y period h l = round-mono binary64 (div binary64 x period) (div binary64 y period) (div-mono binary64 x y period h l)
+count-mono x y period h l = f64-round-mono (div binary64 x period) (div binary64 y period) (div-mono binary64 x y period h l)
 
 pub turns-mono : (x y period : Float) → T (positive period) → T (le x y) → T (le (turns x period) (turns y period))
 unfolding turns
@@ -49,26 +48,22 @@ turns-squeeze lo x hi period h = squeezed (λ (y : Float). turns y period) (λ y
 
 -- ---- no turn
 
-half-finite : (half period : Float) → T (positive period) → T (eq (roundOf (div binary64 half period)) zero) → T (finite half)
-unfolding roundOf roundIn eq ofBits
-half-finite nan period h z = unfold div in z
-half-finite (inf s) period h z = subst (λ (q : Float). T (eq (roundOf q) zero)) (div-of-inf binary64 period h s) z
-half-finite (fin s m e) period h z = tt
-
 -- the number of turns within a half that has none
 count-none : (half period : Float) (s : Bool) (m : ℕ) (e : ℤ) → T (positive period) → T (eq (roundOf (div binary64 half period)) zero) → T (le (neg half) (fin s m e)) → T (le (fin s m e) half) → roundOf (div binary64 (fin s m e) period) ≡ fin s 0 (pos 0)
-unfolding roundOf
 count-none half period s m e h z l k =
     let x = fin s m e in
     let q = div binary64 x period in
     let top = div binary64 half period in
-    let low : T (le (neg (roundOf top)) (roundOf q)) = subst (λ (w : Float). T (le w (roundOf q))) (ap roundOf (div-neg binary64 half period h) ∙ round-neg binary64 top) (count-mono (neg half) x period h l) in
-    zero-of-eq binary64 (roundOf q) (round-fits binary64 q) (between-zeros binary64 (roundOf top) (roundOf q) (round-fits binary64 top) (round-fits binary64 q) z low (count-mono x half period h k))
-    ∙ ap (λ (t : Bool). fin t 0 (pos 0)) (round-keeps-sign binary64 q ∙ div-sign binary64 period h s m e)
+    let low : T (le (neg (roundOf top)) (roundOf q)) = subst (λ (w : Float). T (le w (roundOf q))) (ap roundOf (div-neg binary64 half period h) ∙ f64-round-neg top) (count-mono (neg half) x period h l) in
+    zero-of-eq binary64 (roundOf q) (f64-round-fits q) (between-zeros binary64 (roundOf top) (roundOf q) (f64-round-fits top) (f64-round-fits q) z low (count-mono x half period h k))
+    ∙ ap (λ (t : Bool). fin t 0 (pos 0)) (f64-round-keeps-sign q ∙ div-sign binary64 period h s m e)
 
 pub turns-none : (half x period : Float) → T (positive period) → T (eq (roundOf (div binary64 half period)) zero) → T (le (neg half) x) → T (le x half) → turns x period ≡ mul binary64 x zero
-turns-none half x period h z l k = go x (within-finite half x (half-finite half period h z) l k) l k
+turns-none half x period h z l k = go x (within-finite half x half-finite l k) l k
   where
+    half-finite : T (finite half)
+    half-finite = finite-of-div binary64 half period h (f64-round-finite (div binary64 half period) (finite-of-zero (roundOf (div binary64 half period)) z))
+
     go : (x : Float) → T (finite x) → T (le (neg half) x) → T (le x half) → turns x period ≡ mul binary64 x zero
     go nan f l k = absurd f
     go (inf s) f l k = absurd f
