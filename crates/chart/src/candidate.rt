@@ -17,7 +17,7 @@ pub(crate) fn part(i: u32) -> f64
     requires { ⌜ i ≤ 32 ⌝ }
     ensures { λ r. ⌜ r ≡ partOf i ⌝ }
 {
-    (i as f64) / 32.0
+    rings::part(i)
 }
 
 // The candidate after the covered grid point (i, j) of clearance d: replaced where d is greater, and

@@ -1,45 +1,24 @@
 // Rule 7 over all rings: the crossings of every grid point, and whether they cover it.
-use crate::candidate::part;
 use crate::frame::Frame;
 ghost use mathlib.Core.Path.{_≡_};
-ghost use Prim.Native.Nat.{ℕ};
-ghost use lib.ListN.{length};
-ghost use Rattle.sheet.specs.Content.{point, pairs};
-ghost use Rattle.rings.specs.Coverage.{crossing as crossingOf};
+ghost use Prim.Native.Nat.{ℕ, _+_, _^_, _<_};
+ghost use lib.IntN.{pos, natAbs, _+ℤ_};
+ghost use lib.ListN.{length, getD};
+ghost use Rattle.rings.specs.Lines.{Holds};
 ghost use Rattle.chart.specs.Chart.{crossings as crossingsOf, oddℤ, onSide, coveredBy};
 ghost use Rattle.chart.specs.Grid.{gridOf, gridPoint};
 ghost use Rattle.chart.specs.Parts.{ringsFrom, Ascends};
 
-// The crossings of one ring at (u, v).
-fn crossing(periodic: bool, period: f64, ring: &[f64], u: f64, v: f64) -> i64
-    ensures { λ r. ⌜ r ≡ crossingOf periodic period (point u v) (pairs (now (ring .entry))) ⌝ }
+// Adds the numbers of one grid to those of another, place by place.
+fn add_grid(numbers: &[i64], sums: &mut [i64])
+    requires { ⌜ (length (now numbers) ≡ 961) × (length (now sums) ≡ 961) × ((k : ℕ) → k < 961 → natAbs (getD (now sums) k (pos 0)) + natAbs (getD (now numbers) k (pos 0)) < 2 ^ 63) ⌝ }
+    ensures { λ _. ⌜ Holds (pos 0) 961 (now (sums .exit)) (λ (k : ℕ). getD (now (sums .entry)) k (pos 0) +ℤ getD (now (numbers .entry)) k (pos 0)) ⌝ }
 {
-    if periodic {
-        rings::periodic_winding(ring, u, v, period)
-    } else if rings::inside(ring, u, v) {
-        1
-    } else {
-        0
-    }
-}
-
-// The crossings of all rings at (u, v).
-fn crossings_at(frame: Frame, points: &[f64], ends: &[usize], u: f64, v: f64) -> i64
-    requires { ⌜ Ascends 0 (now ends) (length (now points)) ⌝ }
-    ensures { λ r. ⌜ r ≡ crossingsOf frame (ringsFrom 0 (now (ends .entry)) (now (points .entry))) (point u v) ⌝ }
-{
-    let periodic = frame.periodic;
-    let period = frame.period;
-    let mut sum: i64 = 0;
-    let mut from = 0usize;
-    let mut k = 0;
-    while k < ends.len() {
-        let to = ends[k];
-        sum += crossing(periodic, period, &points[from..to], u, v);
-        from = to;
+    let mut k = 0usize;
+    while k < 961 {
+        sums[k] += numbers[k];
         k += 1;
     }
-    sum
 }
 
 // The crossings of every grid point, in the grid's order.
@@ -47,15 +26,17 @@ pub(crate) fn fill(frame: Frame, points: &[f64], ends: &[usize], crossings: &mut
     requires { ⌜ (Ascends 0 (now ends) (length (now points))) × (length (now crossings) ≡ 961) ⌝ }
     ensures { λ _. ⌜ now (crossings .exit) ≡ gridOf (λ (i j : ℕ). crossingsOf frame (ringsFrom 0 (now (ends .entry)) (now (points .entry))) (gridPoint i j)) ⌝ }
 {
-    let mut k: u32 = 0;
-    while k < 961 {
-        crossings[k as usize] = crossings_at(
-            frame,
-            points,
-            ends,
-            part(k / 31 + 1),
-            part(k % 31 + 1),
-        );
+    let periodic = frame.periodic;
+    let period = frame.period;
+    rings::clear(crossings);
+    let mut from = 0usize;
+    let mut k = 0;
+    while k < ends.len() {
+        let to = ends[k];
+        let mut of_ring = [0i64; 961];
+        rings::crossing_grid(periodic, period, &points[from..to], &mut of_ring);
+        add_grid(&of_ring, crossings);
+        from = to;
         k += 1;
     }
 }

@@ -16,8 +16,15 @@ pub mod Seams
 pub mod Opening
 -- whole turns and copies, by the order
 pub mod WholeTurns
--- folds over a ring's segments: how large a winding can be, the least distance, and the same by keys
+-- a ring's edges and segments, one after the other: `inside`, how large a winding can be, the least distance, and the same by keys
 pub mod RingFolds
+pub mod Insides
 pub mod Windings
 pub mod LeastDistance
 pub mod Nearest
+-- the grid: its order, its lines and what is below them, a cell for each of its points
+pub mod GridOrder
+pub mod Ascending
+pub mod Cells
+pub mod Flips
+pub mod Columns

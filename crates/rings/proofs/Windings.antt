@@ -1,10 +1,12 @@
 -- How large a winding can be. A segment adds 1, 0 or -1, so a ring's winding is at most its count of points in magnitude, and so are its crossings.
 -- `added` is what a sum of i64 asks and gives where the magnitudes together stay below 2 ^ 63.
-use mathlib.Core.Path.{_≡_, refl, ap, _∙_}
+use mathlib.Core.Path.{_≡_, refl, ap}
 use mathlib.Core.Bool.{Bool, true, false, cond, _&&_, xor}
 use mathlib.Core.List.{List, [], _∷_, foldl}
 use Prim.Native.Nat.{ℕ, suc, _+_, _-_, _^_, _≤_, _<_}
+use native.Mathlib.Nat.{add-zero}
 use native.Mathlib.Omega.{arith}
+use borrow.Author.Tests.{lt-ltb}
 use lib.Dec.{ltb}
 use lib.IntN.{ℤ, pos, negsuc, natAbs, subℕ, _+ℤ_}
 use lib.Ieee.{Float, binary64, add, sub, mul, div, lt}
@@ -32,29 +34,36 @@ sum-small (pos a) (negsuc b) = difference-small a b
 sum-small (negsuc a) (pos b) = omega (arith, difference-small b a)
 sum-small (negsuc a) (negsuc b) = omega arith
 
+pub add-none : (a : ℤ) → a +ℤ pos 0 ≡ a
+add-none (pos a) = ap pos (add-zero a)
+add-none (negsuc a) = rw (lt-ltb 0 (suc a) (omega arith)) (ap negsuc (omega arith))
+
 -- a number of magnitude below 2 ^ 63 is an i64
 pub small-fits : (z : ℤ) → natAbs z < 2 ^ 63 → SFits w64 z
 small-fits (pos n) h = record { sfits = h }
 small-fits (negsuc n) h = record { sfits = omega arith }
 
--- the machine's sum of the bits w and of a call's result r, which is z: it fits, and it is the sum
-pub record Added (w : ℕ) (r z : ℤ) : Type 0 where
-  pub fits : SFits w64 (toZ w64 w +ℤ toZ w64 (ofZ w64 r))
-  pub is : toZ w64 (ofZ w64 (toZ w64 w +ℤ toZ w64 (ofZ w64 r))) ≡ toZ w64 w +ℤ z
+-- the machine's sum of two of them, each read from its bits: it fits, and it is the sum
+pub record Added (x y : ℤ) : Type 0 where
+  pub fits : SFits w64 (toZ w64 (ofZ w64 x) +ℤ toZ w64 (ofZ w64 y))
+  pub is : toZ w64 (ofZ w64 (toZ w64 (ofZ w64 x) +ℤ toZ w64 (ofZ w64 y))) ≡ x +ℤ y
 
-module _ (w : ℕ) (r z : ℤ) (ok : SFits w64 r) (e : r ≡ z) (h : natAbs (toZ w64 w) + natAbs z < 2 ^ 63) where
-  read-back : toZ w64 (ofZ w64 r) ≡ z
-  read-back = toZ-ofZ w64 r ok ∙ e
+module _ (x y : ℤ) (h : natAbs x + natAbs y < 2 ^ 63) where
+  read-x : toZ w64 (ofZ w64 x) ≡ x
+  read-x = toZ-ofZ w64 x (small-fits x (omega arith))
 
-  sum-fits : SFits w64 (toZ w64 w +ℤ toZ w64 (ofZ w64 r))
-  sum-fits = rw read-back (small-fits (toZ w64 w +ℤ z) (omega (arith, sum-small (toZ w64 w) z)))
+  read-y : toZ w64 (ofZ w64 y) ≡ y
+  read-y = toZ-ofZ w64 y (small-fits y (omega arith))
 
-  pub added : Added w r z
-  added = record { fits = sum-fits; is = toZ-ofZ w64 (toZ w64 w +ℤ toZ w64 (ofZ w64 r)) sum-fits ∙ ap (λ (y : ℤ). toZ w64 w +ℤ y) read-back }
+  sum-fits : SFits w64 (x +ℤ y)
+  sum-fits = small-fits (x +ℤ y) (omega (arith, sum-small x y))
+
+  pub added : Added x y
+  added = record { fits = rw (read-x, read-y) sum-fits; is = rw (read-x, read-y) (toZ-ofZ w64 (x +ℤ y) sum-fits) }
 
 -- ---- a segment, a ring
 
-one-at-most : (c d : Bool) → natAbs (cond c (cond d (pos 1) (negsuc 0)) (pos 0)) ≤ 1
+pub one-at-most : (c d : Bool) → natAbs (cond c (cond d (pos 1) (negsuc 0)) (pos 0)) ≤ 1
 one-at-most true true = omega arith
 one-at-most true false = omega arith
 one-at-most false d = omega arith

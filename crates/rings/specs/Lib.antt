@@ -5,4 +5,6 @@ pub mod Joins
 pub mod Normalise
 pub mod Segments
 pub mod Coverage
+pub mod Grid
+pub mod Lines
 pub mod Clearance

@@ -5,7 +5,9 @@
 mod bounds;
 mod clearance;
 mod coverage;
+mod grid;
 mod joins;
+mod lines;
 mod points;
 mod turns;
 
@@ -14,8 +16,10 @@ pub use bounds::greatest;
 pub use bounds::least;
 pub use clearance::nearer;
 pub use coverage::inside;
-pub use coverage::periodic_winding;
+pub use grid::part;
 pub use joins::is_open;
+pub use lines::clear;
+pub use lines::crossing_grid;
 pub use points::normalise;
 pub use points::read;
 pub use points::unroll;

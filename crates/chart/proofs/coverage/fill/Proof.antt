@@ -1,69 +1,144 @@
--- `chart::coverage::fill` writes every grid point's crossings, in the grid's order. The loop's invariant: the first k numbers are those of the whole grid. A turn writes the one in place k, of row k / 31 + 1 and column k % 31 + 1.
+-- `chart::coverage::fill` writes every grid point's crossings, in the grid's order. The loop's invariant, at every grid point: the sum over the rings that are left, from the sum so far, gives the whole answer, and the sum so far is at most `from` in magnitude;
+-- and the ends that are left go up from `from`. A turn adds one ring's crossings, at most its count of numbers in magnitude, so no sum overflows.
 use mathlib.Core.Path.{_≡_, refl, sym, _∙_}
+use mathlib.Core.Bool.{Bool}
 use mathlib.Core.List.{List}
-use Prim.Native.Nat.{ℕ, _+_, _-_, _/_, _%_, _<_, _≤_}
-use native.Mathlib.Numerals.{add-one}
+use Prim.Native.Nat.{ℕ, _+_, _-_, _≤_, _<_}
 use native.Mathlib.Omega.{arith}
-use lib.IntN.{ℤ, pos}
+use lib.IntN.{ℤ, pos, natAbs, _+ℤ_}
 use lib.Ieee.{Float}
-use lib.ListN.{length, getD, take, set, length-set}
-use lib.Seq.{take-all, take-suc, take-suc-set}
-use mir.Syntax.{w64}
-use mir.ValLaws.{toZ-ofZ}
+use lib.ListN.{length, getD, drop, length-take, length-replicate, getD-replicate}
+use Rattle.sheet.specs.Content.{Point, pairs}
+use Rattle.rings.specs.Coverage.{crossing}
+use Rattle.rings.specs.Lines.{Holds, byColumns}
+use Rattle.rings.proofs.Cells.{all-grid, grid-cells, over-all}
+use Rattle.rings.proofs.Flat.{length-pairs}
+use Rattle.rings.proofs.Windings.{crossing-small, sum-small}
 use Rattle.chart.specs.Chart.{crossings}
-use Rattle.chart.specs.Grid.{gridOf, gridPoint, part}
-use Rattle.chart.specs.Parts.{ringsFrom}
+use Rattle.chart.specs.Grid.{gridPoint}
+use Rattle.chart.specs.Parts.{ringsFrom, Ascends}
 use Rattle.chart.specs.declared.frame.Frame.{Frame}
-use Rattle.chart.proofs.Lines.{grid-length, grid-nth}
+use Rattle.chart.proofs.Rings.{between, ascends-step, end-bound, foldRings, fold-rings-step, fold-rings-end}
 use Rattle.chart.proofs.coverage.fill.Statement.{statement}
 use Rattle.chart.proofs.coverage.fill.Tie as tie
 
--- ---- a list that is written from the front
+-- ---- a ring's crossings
 
-module _ {A : Type 0} (whole l : List A) (k : ℕ) (same : take k l ≡ take k whole) where
-  written-more : (a d : A) → k < length l → k < length whole → a ≡ getD whole k d → take (k + 1) (set l k a) ≡ take (k + 1) whole
-  written-more a d h g e = rw (add-one, take-suc-set l k a h, take-suc whole k d g, same, e)
+module _ (periodic : Bool) (period : Float) (p : Point) where
+  abbrev crossed : ℤ → List Point → ℤ
+  crossed n ring = n +ℤ crossing periodic period p ring
 
-  written-all : length l ≤ k → length whole ≤ k → l ≡ whole
-  written-all h g = sym (take-all k l h) ∙ same ∙ take-all k whole g
+  part-small : (from end : ℕ) (xs : List Float) → natAbs (crossing periodic period p (pairs (between from end xs))) ≤ end - from
+  part-small from end xs = omega (arith, crossing-small periodic period p (pairs (between from end xs)), length-pairs (between from end xs), length-take (end - from) (drop from xs))
 
--- ---- the grid of crossings
+abbrev number : Frame → List (List Point) → ℕ → ℕ → ℤ
+number frame rings i j = crossings frame rings (gridPoint i j)
 
-abbrev at : Frame → List Float → List ℕ → ℕ → ℕ → ℤ
-at frame points ends i j = crossings frame (ringsFrom 0 ends points) (gridPoint i j)
+-- ---- the loop
 
 abbrev Inv-loop : tie.InvT-loop
-Inv-loop frame points ends crossings₀ k₀ crossings k = (k ≤ 961) × (length crossings ≡ 961) × (take k crossings ≡ take k (gridOf (at frame points ends)))
+Inv-loop points ends crossings₀ periodic period from₀ k₀ crossings from k =
+    Ascends from (drop k ends) (length points) × (length crossings ≡ 961) × ((n : ℕ) → n < 961 → natAbs (getD crossings n (pos 0)) ≤ from)
+    × ((n : ℕ) → n < 961 → foldRings (crossed periodic period (byColumns n)) ends points (getD crossings n (pos 0)) from k ≡ foldRings (crossed periodic period (byColumns n)) ends points (pos 0) 0 0)
 
 abbrev μ-loop : tie.MeasureT-loop
-μ-loop frame points ends crossings₀ k₀ crossings k = 961 - k
+μ-loop points ends crossings₀ periodic period from₀ k₀ crossings from k = length ends - k
+
+-- ---- in the loop: the end of the next ring, and its crossings
+
+abbrev In : Type 0
+In = tie.In-loop Inv-loop μ-loop
+
+abbrev pointsOf : In → List Float
+pointsOf c = c .before .before .before .before .before .before .before .args .points .now
+
+abbrev endsOf : In → List ℕ
+endsOf c = c .before .before .before .before .before .before .before .args .ends .now
+
+abbrev to : In → ℕ
+to c = getD (endsOf c) (c .before .loop .k) 0
+
+abbrev next : In → ℕ → ℤ
+next c n =
+    let x = c .before .before .before .before .before .before .before .args in
+    crossing (x .frame .periodic) (x .frame .period) (byColumns n) (pairs (between (c .before .loop .from) (to c) (pointsOf c)))
+
+ends-up : (c : In) → (c .before .loop .from ≤ to c) × Ascends (to c) (drop (c .before .loop .k + 1) (endsOf c)) (length (pointsOf c))
+ends-up c = ascends-step (endsOf c) (c .before .loop .k) (c .loop-test .taken) (c .before .loop .from) (length (pointsOf c)) (c .before .loop .inv .0)
+
+in-list : (c : In) → to c ≤ length (pointsOf c)
+in-list c = end-bound (endsOf c) (c .before .loop .k) (c .loop-test .taken) (c .before .loop .from) (length (pointsOf c)) (c .before .loop .inv .0)
+
+small : (c : In) (n : ℕ) → natAbs (next c n) ≤ to c - c .before .loop .from
+small c n =
+    let x = c .before .before .before .before .before .before .before .args in
+    part-small (x .frame .periodic) (x .frame .period) (byColumns n) (c .before .loop .from) (to c) (pointsOf c)
+
+abbrev After : Type 0
+After = tie.After-crossing-grid Inv-loop μ-loop
+
+abbrev inside : After → In
+inside c = c .before .before .before .before
+
+abbrev onGrid : After → ℕ → ℕ → ℤ
+onGrid c i j =
+    let l = inside c in
+    let x = l .before .before .before .before .before .before .before .args in
+    crossing (x .frame .periodic) (x .frame .period) (gridPoint i j) (pairs (between (l .before .loop .from) (to l) (pointsOf l)))
+
+of-ring : (c : After) → Holds (pos 0) 961 (c .crossing-grid .last .1 .1 .1 .0) (next (inside c))
+unfolding byColumns
+of-ring c = grid-cells (pos 0) (onGrid c) (c .crossing-grid .ensures ∙ over-all (onGrid c) _ refl)
+
+-- ---- the code
+
+clear-requires : tie.Need-clear-requires Inv-loop μ-loop
+clear-requires c κs = tt
 
 loop-holds : tie.Need-loop-holds Inv-loop μ-loop
-loop-holds c = (omega arith, c .before .before .pre .1, refl)
+loop-holds c =
+    let s = c .before .before .before .before .before in
+    let e = c .before .clear .ensures in
+    let h = s .pre .1 in (
+      s .pre .0,
+      rw (e, h) (length-replicate 961 (pos 0)),
+      λ n l. rw (e, h, getD-replicate 961 n (pos 0) (pos 0) l) (omega arith),
+      λ n l. rw (e, h, getD-replicate 961 n (pos 0) (pos 0) l),
+    )
 
-add-part : tie.Need-add-part Inv-loop μ-loop
-add-part c = omega arith
+mul-to : tie.Need-mul-to Inv-loop μ-loop
+mul-to c = omega arith
 
-part-requires : tie.Need-part-requires Inv-loop μ-loop
-part-requires c κs = omega arith
+shared-slice-read-to : tie.Need-shared-slice-read-to Inv-loop μ-loop
+shared-slice-read-to c = omega arith
 
-add-part-2 : tie.Need-add-part-2 Inv-loop μ-loop
-add-part-2 c = omega arith
+mul-crossing-grid : tie.Need-mul-crossing-grid Inv-loop μ-loop
+mul-crossing-grid c = omega (arith, in-list (c .before), ends-up (c .before) .0)
 
-part-requires-2 : tie.Need-part-requires-2 Inv-loop μ-loop
-part-requires-2 c κs = omega arith
+sub-crossing-grid : tie.Need-sub-crossing-grid Inv-loop μ-loop
+sub-crossing-grid c = ends-up (c .before) .0
 
-crossings-at-requires : tie.Need-crossings-at-requires Inv-loop μ-loop
-crossings-at-requires c κs = c .before .before .before .before .before .before .pre .0
+part-crossing-grid-start : tie.Need-part-crossing-grid-start Inv-loop μ-loop
+part-crossing-grid-start c = ends-up (c .before) .0
 
-cast-t14 : tie.Need-cast-t14 Inv-loop μ-loop
-cast-t14 c = omega arith
+part-crossing-grid-end : tie.Need-part-crossing-grid-end Inv-loop μ-loop
+part-crossing-grid-end c = in-list (c .before)
 
-mul-t15 : tie.Need-mul-t15 Inv-loop μ-loop
-mul-t15 c = omega arith
+slice-aggregate-crossing-grid : tie.Need-slice-aggregate-crossing-grid Inv-loop μ-loop
+slice-aggregate-crossing-grid c = refl
 
-slice-set-from-crossings : tie.Need-slice-set-from-crossings Inv-loop μ-loop
-slice-set-from-crossings c = omega arith
+crossing-grid-requires : tie.Need-crossing-grid-requires Inv-loop μ-loop
+crossing-grid-requires c κs = tt
+
+slice-aggregate-add-grid : tie.Need-slice-aggregate-add-grid Inv-loop μ-loop
+slice-aggregate-add-grid c = sym (of-ring (c .before .before) .count)
+
+add-grid-requires : tie.Need-add-grid-requires Inv-loop μ-loop
+add-grid-requires c κs =
+    let r = c .before .before .before in
+    let i = inside r in
+    let l = i .before in
+    (of-ring r .count, l .loop .inv .1, λ n h. rw (of-ring r .is n h) (omega (arith, l .loop .inv .2 n h, small i n, in-list i, ends-up i .0)))
 
 add-k : tie.Need-add-k Inv-loop μ-loop
 add-k c = omega arith
@@ -72,28 +147,31 @@ loop-less : tie.Need-loop-less Inv-loop μ-loop
 loop-less c = omega arith
 
 loop-again : tie.Need-loop-again Inv-loop μ-loop
-unfolding gridPoint
 loop-again c =
-    let x = c .before .before .before .before .before .before .before .args in
-    let l = c .before .before .before .before .loop in
-    let f = at (x .frame) (x .points .now) (x .ends .now) in
-    let m : l .k < 961 = omega arith in
-    let e : c .crossings-at .result ≡ f (l .k / 31 + 1) (l .k % 31 + 1) = rw (← c .before .part2 .ensures, ← c .before .before .part .ensures) (c .crossings-at .ensures) in (
-      omega arith,
-      length-set (l .crossings) (l .k) _ ∙ l .inv .1,
-      written-more (gridOf f) (l .crossings) (l .k) (l .inv .2) _ (pos 0) (omega arith) (rw (grid-length f) m)
-          (toZ-ofZ w64 (c .crossings-at .result) (record { sfits = c .crossings-at .ok }) ∙ e ∙ sym (grid-nth f (pos 0) (l .k) m)),
+    let r = c .before .before .before .before .before in
+    let i = inside r in
+    let l = i .before in
+    let x = l .before .before .before .before .before .before .args in
+    let sums = c .before .add-grid .ensures in (
+      ends-up i .1,
+      sums .count,
+      λ n h. rw (sums .is n h, of-ring r .is n h) (omega (arith, l .loop .inv .2 n h, sum-small (getD (l .loop .crossings) n (pos 0)) (next i n), small i n, ends-up i .0)),
+      λ n h. rw (sums .is n h, of-ring r .is n h)
+          (sym (fold-rings-step (crossed (x .frame .periodic) (x .frame .period) (byColumns n)) (x .ends .now) (x .points .now) (getD (l .loop .crossings) n (pos 0)) (l .loop .from) (l .loop .k) (i .loop-test .taken)) ∙ l .loop .inv .3 n h),
     )
 
 same-length : tie.Need-same-length Inv-loop μ-loop
-same-length c = c .before .loop .inv .1 ∙ sym (c .before .before .before .before .pre .1)
+same-length c = c .before .loop .inv .1 ∙ sym (c .before .before .before .before .before .before .before .pre .1)
 
 returns : tie.Need-returns Inv-loop μ-loop
+unfolding crossings byColumns
 returns c =
-    let x = c .before .before .before .before .args in
-    let l = c .before .loop in
-    let f = at (x .frame) (x .points .now) (x .ends .now) in
-    written-all (gridOf f) (l .crossings) (l .k) (l .inv .2) (omega arith) (omega (arith, grid-length f))
+    let l = c .before in
+    let x = l .before .before .before .before .before .before .args in
+    all-grid (pos 0) (l .loop .crossings) (number (x .frame) (ringsFrom 0 (x .ends .now) (x .points .now))) (record {
+      count = l .loop .inv .1;
+      is = λ n h. sym (fold-rings-end (crossed (x .frame .periodic) (x .frame .period) (byColumns n)) (x .ends .now) (x .points .now) (getD (l .loop .crossings) n (pos 0)) (l .loop .from) (l .loop .k) (c .loop-test .left)) ∙ l .loop .inv .3 n h;
+    })
 
 pub fill-spec : {M : Type 1} → statement M
 fill-spec =
@@ -101,15 +179,18 @@ fill-spec =
     (tie.spec
     Inv-loop
     μ-loop
+    clear-requires
     loop-holds
-    add-part
-    part-requires
-    add-part-2
-    part-requires-2
-    crossings-at-requires
-    cast-t14
-    mul-t15
-    slice-set-from-crossings
+    mul-to
+    shared-slice-read-to
+    mul-crossing-grid
+    sub-crossing-grid
+    part-crossing-grid-start
+    part-crossing-grid-end
+    slice-aggregate-crossing-grid
+    crossing-grid-requires
+    slice-aggregate-add-grid
+    add-grid-requires
     add-k
     loop-less
     loop-again

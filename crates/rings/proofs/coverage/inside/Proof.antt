@@ -1,42 +1,16 @@
 -- `rings::coverage::inside` is `insideOf`. The loop's invariant: going on with the points from place k, from the answer so far and the point before them, gives the whole answer.
 -- A turn passes one point. The point before the first is the last.
 use mathlib.Core.Path.{_≡_, sym, _∙_}
-use mathlib.Core.Bool.{Bool, false, xor}
-use mathlib.Core.List.{List}
-use Prim.Native.Nat.{ℕ, _+_, _-_, _*_, _/_, _≤_, _<_}
+use mathlib.Core.Bool.{xor}
+use Prim.Native.Nat.{_-_, _*_, _/_, _≤_}
 use native.Mathlib.Omega.{arith}
 use borrow.Author.Needs.{needs}
-use lib.Ieee.{Float, nan}
 use lib.ListN.{length, drop}
-use Rattle.sheet.specs.Content.{Point, point, pairs}
-use Rattle.rings.specs.Coverage.{flips, insideFrom, insideOf}
-use Rattle.rings.proofs.Pairs.{pairs-step, pairs-end}
-use Rattle.rings.proofs.RingFolds.{pointAt, last-point}
+use Rattle.sheet.specs.Content.{point, pairs}
+use Rattle.rings.specs.Coverage.{insideFrom, insideOf}
+use Rattle.rings.proofs.Insides.{inside-none, inside-start, inside-step, inside-end}
 use Rattle.rings.proofs.coverage.inside.Statement.{statement}
 use Rattle.rings.proofs.coverage.inside.Tie as tie
-
--- ---- the definition along the list
-
-module _ (ring : List Float) (p : Point) where
-  inside-none : length ring / 2 ≡ 0 → insideOf (pairs ring) p ≡ false
-  unfolding insideOf
-  inside-none h = let l : length ring / 2 ≤ 0 = omega arith in rw (pairs-end ring 0)
-
-  inside-start : 1 < length ring → insideFrom p false (pointAt ring (length ring / 2 - 1)) (pairs ring) ≡ insideOf (pairs ring) p
-  unfolding insideOf
-  inside-start h = rw (pairs-step ring 0 nan, last-point ring)
-
-  module _ (soFar : Bool) (b : Point) (k : ℕ) where
-    inside-step : 2 * k + 1 < length ring
-        → insideFrom p soFar b (pairs (drop (2 * k) ring)) ≡ insideFrom p (xor soFar (flips p (pointAt ring k) b)) (pointAt ring k) (pairs (drop (2 * (k + 1)) ring))
-    unfolding insideFrom
-    inside-step h = rw (pairs-step ring k nan)
-
-    inside-end : length ring / 2 ≤ k → insideFrom p soFar b (pairs (drop (2 * k) ring)) ≡ soFar
-    unfolding insideFrom
-    inside-end h = rw (pairs-end ring k)
-
--- ---- the code
 
 abbrev Inv-loop : tie.InvT-loop
 Inv-loop ring u v count in-so-far₀ last b-u₀ b-v₀ k₀ in-so-far b-u b-v k = (k ≤ length ring / 2) × (insideFrom (point u v) in-so-far (point b-u b-v) (pairs (drop (2 * k) ring)) ≡ insideOf (pairs ring) (point u v))

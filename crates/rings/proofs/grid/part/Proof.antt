@@ -1,9 +1,9 @@
--- `chart::candidate::part` is `part` of the specs, operation by operation.
+-- `rings::grid::part` is `part` of the specs, operation by operation.
 use mathlib.Core.Path.{refl}
-use Rattle.chart.specs.Grid.{part}
+use Rattle.rings.specs.Grid.{part}
 use borrow.Author.Needs.{needs}
-use Rattle.chart.proofs.candidate.part.Statement.{statement}
-use Rattle.chart.proofs.candidate.part.Tie as tie
+use Rattle.rings.proofs.grid.part.Statement.{statement}
+use Rattle.rings.proofs.grid.part.Tie as tie
 
 int-to-float-result : tie.Need-int-to-float-result
 int-to-float-result c = search needs

@@ -1,0 +1,123 @@
+-- Lists of cells, as those of the grid's points, that change by their place: of the cells before a place every one has changed, and of those from there on none. A step changes one cell or a whole line of them.
+use mathlib.Core.Path.{_≡_, refl, sym, ap, _∙_}
+use mathlib.Core.List.{List, [], _++_, append-nil}
+use Prim.Native.Nat.{ℕ, _+_, _-_, _*_, _/_, _%_, _<_, _≤_}
+use native.Mathlib.Decide.{decLt}
+use native.Mathlib.Omega.{arith}
+use borrow.Author.Tests.{lt-ltb, le-ltb}
+use lib.ListN.{length, getD, take, drop, set, replicate, length-append, length-drop, length-set, length-replicate, getD-replicate, drop-of-length-le, List·getD-append}
+use lib.Seq.{length-take-le, getD-append-add, getD-set-same, getD-set-other, getD-take, getD-drop, ext-getD}
+use Rattle.sheet.specs.Lists.{over}
+use Rattle.rings.specs.Grid.{gridOf}
+use Rattle.rings.specs.Lines.{Holds}
+use Rattle.rings.proofs.GridOrder.{grid-length, grid-nth}
+
+-- ---- a part of a list, written anew
+
+abbrev pub anew : {A : Type 0} → List A → List A → ℕ → ℕ → List A
+anew l ys from x = take from l ++ (ys ++ drop x (drop from l))
+
+module _ {A : Type 0} (d : A) (l ys : List A) (from x : ℕ) (new : length ys ≡ x) (room : from + x ≤ length l) where
+  front : length (take from l) ≡ from
+  front = length-take-le from l (omega arith)
+
+  anew-length : length (anew l ys from x) ≡ length l
+  anew-length = simp (length-append, length-drop) (omega (arith, front))
+
+  anew-before : (k : ℕ) → k < from → getD (anew l ys from x) k d ≡ getD l k d
+  anew-before k h = List·getD-append (take from l) (ys ++ drop x (drop from l)) d k (omega (arith, front)) ∙ getD-take from l k d h
+
+  past-front : (k : ℕ) → getD (anew l ys from x) (from + k) d ≡ getD (ys ++ drop x (drop from l)) k d
+  past-front k = ap (λ (n : ℕ). getD (anew l ys from x) (n + k) d) (sym front) ∙ getD-append-add (take from l) (ys ++ drop x (drop from l)) k d
+
+  anew-in : (k : ℕ) → k < x → getD (anew l ys from x) (from + k) d ≡ getD ys k d
+  anew-in k h = past-front k ∙ List·getD-append ys (drop x (drop from l)) d k (omega arith)
+
+  anew-after : (k : ℕ) → from + x ≤ k → getD (anew l ys from x) k d ≡ getD l k d
+  anew-after k h =
+      let n = k - from - x in
+      let e : k ≡ from + (x + n) = omega arith in
+      let f : from + (x + n) ≡ k = omega arith in
+      ap (λ (i : ℕ). getD (anew l ys from x) i d) e ∙ past-front (x + n) ∙ ap (λ (i : ℕ). getD (ys ++ drop x (drop from l)) (i + n) d) (sym new) ∙ getD-append-add ys (drop x (drop from l)) n d ∙ getD-drop x (drop from l) n d ∙ getD-drop from l (x + n) d ∙ ap (λ (i : ℕ). getD l i d) f
+
+-- ---- cells that change by their place, one after the other or line after line
+
+module _ {A : Type 0} (none : A) (size : ℕ) (change : ℕ → A → A) (old : List A) where
+  -- those before a place have changed, and none from there on
+  pub record Changed (at : ℕ) (l : List A) : Type 0 where
+    pub count : length l ≡ size
+    pub done : (k : ℕ) → k < at → getD l k none ≡ change k (getD old k none)
+    pub left : (k : ℕ) → at ≤ k → getD l k none ≡ getD old k none
+
+  pub none-changed : length old ≡ size → Changed 0 old
+  none-changed h = record { count = h; done = λ k l. absurd (omega arith); left = λ k l. refl }
+
+  module _ (at : ℕ) (l : List A) (c : Changed at l) where
+    -- places that ask no change
+    pub passed : (next : ℕ) → at ≤ next → ((k : ℕ) → at ≤ k → k < next → change k (getD old k none) ≡ getD old k none) → Changed next l
+    passed next h same = record { count = c .count; done = λ k n. by k n (decLt k at); left = λ k n. c .left k (omega arith) }
+      where
+        by : (k : ℕ) → k < next → Dec (k < at) → getD l k none ≡ change k (getD old k none)
+        by k n (yes p) = c .done k p
+        by k n (no p) = c .left k (omega arith) ∙ sym (same k (omega arith) n)
+
+    -- one cell
+    pub cell-changed : at < size → (a : A) → a ≡ change at (getD l at none) → Changed (at + 1) (set l at a)
+    cell-changed h a e = record { count = length-set l at a ∙ c .count; done = λ k n. by k n (decLt k at); left = λ k n. getD-set-other l at k a none (omega arith) ∙ c .left k (omega arith) }
+      where
+        by : (k : ℕ) → k < at + 1 → Dec (k < at) → getD (set l at a) k none ≡ change k (getD old k none)
+        by k n (yes p) = getD-set-other l at k a none (omega arith) ∙ c .done k p
+        by k n (no p) =
+            let f : k ≡ at = omega arith in
+            rw f (getD-set-same l at a none (omega (arith, c .count)) ∙ e ∙ ap (change at) (c .left at (omega arith)))
+
+    -- a line of x cells, as it stands by itself and written anew
+    pub in-line : (x m : ℕ) → m < x → getD (take x (drop at l)) m none ≡ getD old (at + m) none
+    in-line x m h = getD-take x (drop at l) m none h ∙ getD-drop at l m none ∙ c .left (at + m) (omega arith)
+
+    module _ (x next : ℕ) (to : next ≡ at + x) (room : next ≤ size) (ys : List A) (value : ℕ → A) (new : Holds none x ys value) where
+      pub line-changed : ((m : ℕ) → m < x → value m ≡ change (at + m) (getD old (at + m) none)) → Changed next (anew l ys at x)
+      line-changed meant = record { count = anew-length none l ys at x (new .count) fit ∙ c .count; done = λ k n. by k n (decLt k at); left = λ k n. anew-after none l ys at x (new .count) fit k (omega arith) ∙ c .left k (omega arith) }
+        where
+          fit : at + x ≤ length l
+          fit = let n = c .count in omega arith
+
+          by : (k : ℕ) → k < next → Dec (k < at) → getD (anew l ys at x) k none ≡ change k (getD old k none)
+          by k n (yes p) = anew-before none l ys at x (new .count) fit k p ∙ c .done k p
+          by k n (no p) =
+              let m = k - at in
+              let e : at + m ≡ k = omega arith in
+              rw (← e) (anew-in none l ys at x (new .count) fit m (omega arith) ∙ new .is m (omega arith) ∙ meant m (omega arith))
+
+    pub all-changed : size ≤ at → Holds none size l (λ (k : ℕ). change k (getD old k none))
+    all-changed h = record { count = c .count; is = λ k n. c .done k (omega arith) }
+
+-- ---- what all cells hold is the list
+
+pub all-same : {A : Type 0} (none a : A) (size : ℕ) (l : List A) → Holds none size l (λ (k : ℕ). a) → l ≡ replicate size a
+all-same none a size l h = ext-getD none l (replicate size a) (h .count ∙ sym (length-replicate size a)) (λ k n. let m : k < size = omega (arith, h .count) in h .is k m ∙ sym (getD-replicate size k a none m))
+
+-- in the grid's order
+pub all-grid : {A : Type 0} (none : A) (l : List A) (f : ℕ → ℕ → A) → Holds none 961 l (λ (k : ℕ). f (k / 31 + 1) (k % 31 + 1)) → l ≡ gridOf f
+all-grid none l f h = ext-getD none l (gridOf f) (h .count ∙ sym (grid-length f)) (λ k n. let m : k < 961 = omega (arith, h .count) in h .is k m ∙ sym (grid-nth f none k m))
+
+pub grid-cells : {A : Type 0} (none : A) {l : List A} (f : ℕ → ℕ → A) → l ≡ gridOf f → Holds none 961 l (λ (k : ℕ). f (k / 31 + 1) (k % 31 + 1))
+grid-cells none f e = record { count = rw e (grid-length f); is = λ k h. rw e (grid-nth f none k h) }
+
+-- ---- a grid written over a list
+
+module _ {A : Type 0} (f : ℕ → ℕ → A) (l : List A) where
+  -- that has no room for it
+  pub over-short : length l < 961 → l ≡ over (gridOf f) l
+  unfolding over
+  over-short h = rw (grid-length f, lt-ltb (length l) 961 h)
+
+  pub over-front : {ys : List A} → 961 ≤ length l → ys ≡ gridOf f → ys ++ drop 961 l ≡ over (gridOf f) l
+  unfolding over
+  over-front h e = rw (e, grid-length f, le-ltb (length l) 961 h)
+
+  -- that has room for just it
+  pub over-all : length l ≡ 961 → over (gridOf f) l ≡ gridOf f
+  over-all h =
+      let n : length l ≤ 961 = omega arith in
+      sym (over-front (omega arith) refl) ∙ rw (drop-of-length-le l n) (append-nil (gridOf f))
