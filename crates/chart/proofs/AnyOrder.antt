@@ -21,11 +21,11 @@ use Rattle.rings.specs.Joins.{opens, ringOpen}
 use Rattle.rings.specs.Normalise.{normal}
 use Rattle.rings.proofs.Moved.{moved-clear}
 use Rattle.chart.specs.Frame.{bandOf, periodicOf, spread, framed, frameOf, bandWide, narrow, boxed}
-use Rattle.chart.specs.Grid.{gridPoint}
-use Rattle.chart.specs.Search.{search}
+use Rattle.rings.specs.Grid.{gridPoint}
+use Rattle.grid.specs.Search.{search}
 use Rattle.chart.specs.Chart.{candidate, movedRings, frame, joinsOpen, normalised, chosen, pointCount, answered, phaseWrong, roomWrong, noneClear, frameChecks}
 use Rattle.chart.specs.declared.frame.Frame.{Frame}
-use Rattle.chart.specs.declared.candidate.Candidate.{Candidate}
+use Rattle.grid.specs.declared.candidate.Candidate.{Candidate}
 use Rattle.sheet.proofs.Permutations.{map-perm, flatten-perm, any-of-perm, all-map, all-weaken, all-flatten}
 use Rattle.chart.proofs.Crossings.{covered-perm}
 use Rattle.chart.proofs.Clearances.{clearance-perm}

@@ -23,7 +23,7 @@ use Rattle.chart.specs.Chart.{Charted, charted, chartOf, frameChecks, mo
 use Rattle.chart.specs.Stages.{Passed}
 use Rattle.chart.specs.declared.answer.Answer.{Answer}
 use Rattle.chart.specs.declared.answer.Answer.the-variants.{Point as Answered, Refused}
-use Rattle.chart.specs.declared.candidate.Candidate.{Candidate}
+use Rattle.grid.specs.declared.candidate.Candidate.{Candidate}
 use Rattle.chart.specs.declared.frame.Frame.{Frame}
 use Rattle.chart.proofs.Calling.{sheet-moved, numbers-count, refusal-left}
 use Rattle.chart.proofs.Outcomes.{chart-numbers, chart-points, answered-status, frame-numbered}

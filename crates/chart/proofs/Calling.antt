@@ -27,7 +27,7 @@ use Rattle.chart.specs.Parts.{ringsFrom, endsFrom}
 use Rattle.chart.specs.Stages.{isPoint, movedBlock, movedBlocks, anyOpen, normalisedBy, stageChecks, foundIn, Passed}
 use Rattle.chart.specs.declared.answer.Answer.{Answer}
 use Rattle.chart.specs.declared.answer.Answer.the-variants.{Refused}
-use Rattle.chart.specs.declared.candidate.Candidate.{Candidate}
+use Rattle.grid.specs.declared.candidate.Candidate.{Candidate}
 use Rattle.chart.specs.declared.frame.Frame.{Frame}
 use Rattle.chart.proofs.AnyOrder.{chosen-in}
 use Rattle.chart.proofs.Counting.{points-by-coedges, count-of-blocks, moved-numbers}

@@ -13,11 +13,11 @@ use lib.Ieee.{Float, binary64, ofBits, fits, isNan, lt, le}
 use Rattle.leaves.specs.Constants.{zero as plusZero, clearanceLimit}
 use Rattle.leaves.proofs.ConstantBits.{clearanceLimit-fits, clearanceLimit-positive}
 use Rattle.leaves.proofs.Order.{le-self, le→not-lt, le-lt-trans, lt-le-trans, lt→le, lt-irrefl, not-lt→le}
-use Rattle.chart.specs.Grid.{upFrom, lines, part, gridOf}
-use Rattle.chart.specs.Search.{start, better, counted, visit, column, search}
+use Rattle.rings.specs.Grid.{upFrom, lines, part, gridOf}
+use Rattle.grid.specs.Search.{start, better, counted, visit, column, search}
 use Rattle.chart.specs.Demand.{OnGrid, After, trues, coveredCount, NoneServes, Clearest, candidateAt}
-use Rattle.chart.specs.declared.candidate.Candidate.{Candidate}
-use Rattle.chart.proofs.Visits.{visit-is}
+use Rattle.grid.specs.declared.candidate.Candidate.{Candidate}
+use Rattle.grid.proofs.Visits.{visit-is}
 
 -- ---- a walk over n numbers from i on
 

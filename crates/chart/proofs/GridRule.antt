@@ -16,11 +16,11 @@ use Rattle.sheet.specs.Layout.{sheetOf}
 use Rattle.sheet.specs.Checks.{Check, check, first, layoutChecks, contentChecks}
 use Rattle.sheet.proofs.Checked.{Beyond, Numbered, first-passed}
 use Rattle.sheet.specs.Outcome.{Numbers, refused, settled}
-use Rattle.chart.specs.Grid.{gridPoint}
-use Rattle.chart.specs.Search.{search}
+use Rattle.rings.specs.Grid.{gridPoint}
+use Rattle.grid.specs.Search.{search}
 use Rattle.chart.specs.Chart.{candidate, frame, normalised, chosen, answered, noneClear, frameChecks, chartChecks, chartOf}
 use Rattle.chart.specs.Demand.{Clearest, NoneServes, Passes, candidateAt, clearAt, coverAt, downTo}
-use Rattle.chart.specs.declared.candidate.Candidate.{Candidate}
+use Rattle.grid.specs.declared.candidate.Candidate.{Candidate}
 use Rattle.chart.proofs.Clearances.{clearance-held, clearance-number}
 use Rattle.chart.proofs.Clearest.{chosen-is, none-serves}
 use Rattle.chart.proofs.Outcomes.{Parted, chart-numbers, chart-status, down-numbered, first-above, first-passes}

@@ -3,9 +3,8 @@
 -- rings that stand one behind the other in one list of numbers
 pub mod Parting
 pub mod Rings
--- the grid's lines, and a candidate's visits to its points
-pub mod Lines
-pub mod Visits
+-- from the rings to what the search takes, and what it chooses
+pub mod Choosing
 -- how many points there are
 pub mod Counting
 -- checks 11 to 14

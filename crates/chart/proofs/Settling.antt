@@ -16,7 +16,7 @@ use Rattle.chart.specs.Frame.{bandWide, narrow}
 use Rattle.chart.specs.Stages.{isPoint, anyOpen, normalisedBy, stageChecks, foundIn}
 use Rattle.chart.specs.declared.answer.Answer.{Answer}
 use Rattle.chart.specs.declared.answer.Answer.the-variants.{Refused}
-use Rattle.chart.specs.declared.candidate.Candidate.{Candidate}
+use Rattle.grid.specs.declared.candidate.Candidate.{Candidate}
 use Rattle.chart.specs.declared.frame.Frame.{Frame}
 
 module _ (sense phase : ℕ) (f : Frame) (rings : List (List Point)) where

@@ -18,10 +18,10 @@ use Rattle.rings.specs.Coverage.{crossing}
 use Rattle.rings.specs.Clearance.{nearer}
 use Rattle.sheet.specs.Outcome.{Numbers, refused}
 use Rattle.chart.specs.Frame.{frameOf, bandWide, narrow}
-use Rattle.chart.specs.Grid.{gridPoint}
-use Rattle.chart.specs.Search.{search}
+use Rattle.rings.specs.Grid.{gridPoint}
+use Rattle.grid.specs.Search.{search}
 use Rattle.chart.specs.declared.frame.Frame.{Frame}
-use Rattle.chart.specs.declared.candidate.Candidate.{Candidate}
+use Rattle.grid.specs.declared.candidate.Candidate.{Candidate}
 
 -- ---- rules 1 to 5, of a sheet's content at a phase
 

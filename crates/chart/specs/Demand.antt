@@ -9,8 +9,8 @@ use lib.Ieee.{Float, lt, le}
 use Rattle.leaves.specs.Constants.{clearanceLimit}
 use Rattle.sheet.specs.Content.{Sheet}
 use Rattle.sheet.specs.Checks.{Check, first}
-use Rattle.chart.specs.Grid.{part, gridPoint, gridOf}
-use Rattle.chart.specs.declared.candidate.Candidate.{Candidate}
+use Rattle.rings.specs.Grid.{part, gridPoint, gridOf}
+use Rattle.grid.specs.declared.candidate.Candidate.{Candidate}
 use Rattle.chart.specs.Chart.{covered, clearance, frame, normalised}
 
 -- ---- "31 × 31 grid points", "u before v"

@@ -1,7 +1,5 @@
 pub mod Answer
 pub mod Frame
-pub mod Grid
-pub mod Search
 pub mod Chart
 pub mod Parts
 pub mod Stages

@@ -6,7 +6,7 @@ use lib.ListN.{length}
 use lib.Ieee.{Float, binary64, round, toBits}
 use Rattle.leaves.specs.Constants.{zero as plusZero, decimal, one}
 use Rattle.sheet.specs.Content.{Point, point, Coedge, Sheet}
-use Rattle.chart.specs.Grid.{upFrom}
+use Rattle.rings.specs.Grid.{upFrom}
 
 -- ---- "Square (0,0) (1,0) (1,1) (0,1)"
 unfoldable pub square : List Point

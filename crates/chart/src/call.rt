@@ -1,6 +1,5 @@
 // The chart call.
 use crate::answer::Answer;
-use crate::candidate::Candidate;
 use crate::frame::Frame;
 use crate::frame::band_wide;
 use crate::frame::frame_of;
@@ -10,6 +9,7 @@ use crate::prepare::prepare;
 use crate::search::choose;
 use crate::write::phase_angle;
 use crate::write::write;
+use grid::Candidate;
 use leaves::constants::CLEARANCE_LIMIT;
 ghost use mathlib.Core.Path.{_≡_};
 ghost use mathlib.Core.Bool.{true};
@@ -80,7 +80,7 @@ fn copy(from: &[f64], to: &mut [f64])
 
 // Rules 5 to 9: the grid point chosen in a frame. `normal` has room for just the normalised points.
 fn chosen_over(f: Frame, sense: u8, points: &[f64], ends: &[usize], normal: &mut [f64]) -> Candidate
-    requires { ⌜ Packed (now ends) (now points) × (length (now points) ≡ length (now normal)) ⌝ }
+    requires { ⌜ Packed (now ends) (now points) × (length (now points) ≡ length (now normal)) × (length (now points) ≤ 4352) ⌝ }
     ensures { λ r. ⌜ r ≡ candidate f sense (normalisedBy f (ringsFrom 0 (now (ends .entry)) (now (points .entry)))) ⌝ }
 {
     copy(points, normal);

@@ -6,7 +6,7 @@ ghost use lib.IntN.{pos, natAbs, _+ℤ_};
 ghost use lib.ListN.{length, getD};
 ghost use Rattle.rings.specs.Lines.{Holds};
 ghost use Rattle.chart.specs.Chart.{crossings as crossingsOf, oddℤ, onSide, coveredBy};
-ghost use Rattle.chart.specs.Grid.{gridOf, gridPoint};
+ghost use Rattle.rings.specs.Grid.{gridOf, gridPoint};
 ghost use Rattle.chart.specs.Parts.{ringsFrom, Ascends};
 
 // Adds the numbers of one grid to those of another, place by place.

@@ -3,7 +3,6 @@
 
 mod answer;
 mod call;
-mod candidate;
 mod coverage;
 mod frame;
 mod prepare;

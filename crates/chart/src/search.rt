@@ -1,90 +1,59 @@
-// Rules 6, 8 and 9: the search over the grid.
-use crate::candidate::Candidate;
-use crate::candidate::part;
-use crate::candidate::visited;
+// Rules 6 to 9: the search over the grid, from the covered grid points and the segments of all rings.
 use crate::coverage::fill;
 use crate::coverage::is_covered;
 use crate::frame::Frame;
+use grid::Candidate;
 ghost use mathlib.Core.Path.{_≡_};
-ghost use Prim.Native.Nat.{ℕ, _+_, _≤_};
-ghost use lib.ListN.{length};
-ghost use Rattle.leaves.specs.Bounds.{largerOf};
-ghost use Rattle.sheet.specs.Content.{point};
-ghost use Rattle.chart.specs.Chart.{clearance, crossings as crossingsOf, covered, candidate};
-ghost use Rattle.chart.specs.Grid.{gridOf, gridPoint};
+ghost use mathlib.Core.List.{map};
+ghost use Prim.Native.Nat.{_*_, _≤_};
+ghost use lib.ListN.{length, take};
+ghost use Rattle.sheet.specs.Content.{flat};
+ghost use Rattle.grid.specs.Segments.{endsOf, laidRings};
+ghost use Rattle.chart.specs.Chart.{candidate, coveredBy};
 ghost use Rattle.chart.specs.Parts.{ringsFrom, Ascends};
-ghost use Rattle.chart.specs.Search.{column as columnOf};
 
-// The larger of `best` and the clearance of (u, v): the least distance to a segment of any ring.
-fn larger_clearance(frame: Frame, points: &[f64], ends: &[usize], u: f64, v: f64, best: f64) -> f64
-    requires { ⌜ Ascends 0 (now ends) (length (now points)) ⌝ }
-    ensures { λ r. ⌜ r ≡ largerOf best (clearance frame (ringsFrom 0 (now (ends .entry)) (now (points .entry))) (point u v)) ⌝ }
+// The segments of all rings, one ring behind the other, over the front of a list that has room for them.
+// It answers how many numbers they are.
+fn lay_rings(periodic: bool, period: f64, points: &[f64], ends: &[usize], list: &mut [f64]) -> usize
+    requires { ⌜ Ascends 0 (now ends) (length (now points)) × (2 * length (now points) ≤ length (now list)) × (length (now points) ≤ 4352) ⌝ }
+    ensures { λ r. ⌜ (r ≤ 2 * length (now (points .entry))) × (take r (now (list .exit)) ≡ flat (endsOf (laidRings periodic period (ringsFrom 0 (now (ends .entry)) (now (points .entry)))))) ⌝ }
 {
-    let periodic = frame.periodic;
-    let period = frame.period;
-    let mut key = 1.0 / 0.0;
+    let mut at = 0usize;
     let mut from = 0usize;
     let mut k = 0;
     while k < ends.len() {
         let to = ends[k];
-        key = rings::nearer(periodic, period, u, v, key, &points[from..to]);
+        let next = at + 4 * ((to - from) / 2);
+        grid::lay(periodic, period, &points[from..to], &mut list[at..next]);
+        at = next;
         from = to;
         k += 1;
     }
-    leaves::larger_of(best, leaves::hypot_of_key(key))
+    at
 }
 
-// The column i of the grid, j from 1 to 31.
-fn column(
-    frame: Frame,
-    sense: u8,
-    points: &[f64],
-    ends: &[usize],
-    crossings: &[i64],
-    i: u32,
-    best: Candidate,
-) -> Candidate
-    requires { ⌜ (Ascends 0 (now ends) (length (now points))) × (now crossings ≡ gridOf (λ (i j : ℕ). crossingsOf frame (ringsFrom 0 (now ends) (now points)) (gridPoint i j))) × (1 ≤ i) × (i ≤ 31) × (best .count ≤ 930) ⌝ }
-    ensures { λ r. ⌜ (r ≡ columnOf (λ (i j : ℕ). covered frame sense (ringsFrom 0 (now (ends .entry)) (now (points .entry))) (gridPoint i j)) (λ (i j : ℕ). clearance frame (ringsFrom 0 (now (ends .entry)) (now (points .entry))) (gridPoint i j)) best i) × (r .count ≤ best .count + 31) ⌝ }
+// Whether each grid point is covered, by its crossings.
+fn mark(band: bool, sense: u8, crossings: &[i64], covered: &mut [bool])
+    requires { ⌜ length (now crossings) ≡ length (now covered) ⌝ }
+    ensures { λ _. ⌜ now (covered .exit) ≡ map (coveredBy band sense) (now (crossings .entry)) ⌝ }
 {
-    let band = frame.band;
-    let mut found = best;
-    let mut j: u32 = 1;
-    while j < 32 {
-        if is_covered(band, sense, crossings[((i - 1) * 31 + (j - 1)) as usize]) {
-            let d = larger_clearance(frame, points, ends, part(i), part(j), found.clearance);
-            found = visited(found, i, j, d);
-        }
-        j += 1;
+    let mut k = 0;
+    while k < crossings.len() {
+        covered[k] = is_covered(band, sense, crossings[k]);
+        k += 1;
     }
-    found
-}
-
-// The whole grid, i from 1 to 31.
-fn search(frame: Frame, sense: u8, points: &[f64], ends: &[usize], crossings: &[i64]) -> Candidate
-    requires { ⌜ (Ascends 0 (now ends) (length (now points))) × (now crossings ≡ gridOf (λ (i j : ℕ). crossingsOf frame (ringsFrom 0 (now ends) (now points)) (gridPoint i j))) ⌝ }
-    ensures { λ r. ⌜ r ≡ candidate frame sense (ringsFrom 0 (now (ends .entry)) (now (points .entry))) ⌝ }
-{
-    let mut best = Candidate {
-        u: 0.0,
-        v: 0.0,
-        clearance: 0.0,
-        count: 0,
-    };
-    let mut i: u32 = 1;
-    while i < 32 {
-        best = column(frame, sense, points, ends, crossings, i, best);
-        i += 1;
-    }
-    best
 }
 
 // The grid point chosen from the normalised rings.
 pub(crate) fn choose(frame: Frame, sense: u8, points: &[f64], ends: &[usize]) -> Candidate
-    requires { ⌜ Ascends 0 (now ends) (length (now points)) ⌝ }
+    requires { ⌜ Ascends 0 (now ends) (length (now points)) × (length (now points) ≤ 4352) ⌝ }
     ensures { λ r. ⌜ r ≡ candidate frame sense (ringsFrom 0 (now (ends .entry)) (now (points .entry))) ⌝ }
 {
     let mut crossings = [0i64; 961];
     fill(frame, points, ends, &mut crossings);
-    search(frame, sense, points, ends, &crossings)
+    let mut covered = [false; 961];
+    mark(frame.band, sense, &crossings, &mut covered);
+    let mut list = [0.0f64; grid::MOST_SEGMENT_NUMBERS];
+    let n = lay_rings(frame.periodic, frame.period, points, ends, &mut list);
+    grid::choose(frame.periodic, frame.period, &list[..n], &covered)
 }

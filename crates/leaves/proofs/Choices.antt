@@ -52,6 +52,10 @@ steps-swap less x y s p q r e = two-steps less x y s (less x s) ∙ swapped (les
 
 -- ---- smaller-of
 
+pub smaller-by-test : (a b : Float) → smallerOf a b ≡ cond (lt b a) b a
+unfolding smallerOf
+smaller-by-test a b = refl
+
 pub smaller-either : (a b : Float) → (smallerOf a b ≡ a) ⊎ (smallerOf a b ≡ b)
 unfolding smallerOf
 smaller-either a b = one-of (lt b a) b a

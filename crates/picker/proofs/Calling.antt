@@ -21,7 +21,7 @@ use Rattle.chart.specs.Answer.{paper}
 use Rattle.chart.specs.Chart.{charted, chartOf, chosen, frameChecks, pointCount, phaseWrong}
 use Rattle.chart.specs.declared.answer.Answer.{Answer}
 use Rattle.chart.specs.declared.answer.Answer.the-variants.{Point as Answered, Refused}
-use Rattle.chart.specs.declared.candidate.Candidate.{Candidate}
+use Rattle.grid.specs.declared.candidate.Candidate.{Candidate}
 use Rattle.sheet.proofs.Settled.{settled-refused, settled-last}
 use Rattle.chart.proofs.Answers.{paper-point, paper-refused}
 use Rattle.chart.proofs.Called.{phase-zero, passed, called-refused, called-answered}

@@ -15,7 +15,7 @@ use Rattle.sheet.specs.Checks.{first, layoutChecks}
 use Rattle.sheet.specs.Outcome.{Numbers, refused}
 use Rattle.chart.specs.Chart.{answered, chartChecks, chartOf, crossings, frame, normalised, pointCount}
 use Rattle.chart.specs.Demand.{NoneServes, Clearest, Passes, candidateAt, clearAt, coverAt, others, picked}
-use Rattle.chart.specs.declared.candidate.Candidate.{Candidate}
+use Rattle.grid.specs.declared.candidate.Candidate.{Candidate}
 use Rattle.chart.proofs.GridRule.{chart-grid-rule}
 use Rattle.chart.proofs.Groups.{groups-add}
 use Rattle.chart.proofs.Reorder.{chart-reordered}

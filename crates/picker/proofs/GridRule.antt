@@ -18,7 +18,7 @@ use Rattle.sheet.specs.Checks.{Check, check, first}
 use Rattle.sheet.specs.Outcome.{refused}
 use Rattle.chart.specs.Chart.{answered, chosen, frame, noneClear}
 use Rattle.chart.specs.Demand.{Clearest, NoneServes, Passes, candidateAt, clearAt, coverAt, downTo}
-use Rattle.chart.specs.declared.candidate.Candidate.{Candidate}
+use Rattle.grid.specs.declared.candidate.Candidate.{Candidate}
 use Rattle.chart.proofs.GridRule.{Call, grid-rule}
 use Rattle.sheet.proofs.Settled.{settled-last}
 use Rattle.chart.proofs.Outcomes.{first-above, first-passes}

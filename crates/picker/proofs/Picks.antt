@@ -15,7 +15,7 @@ use Rattle.sheet.proofs.Checked.{Numbered, Within, content-numbered, content-wi
 use Rattle.sheet.specs.Outcome.{Numbers, refused, settled}
 use Rattle.chart.specs.Chart.{answered, chosen, frame, frameChecks, noneClear, phaseWrong}
 use Rattle.chart.specs.Demand.{downTo}
-use Rattle.chart.specs.declared.candidate.Candidate.{Candidate}
+use Rattle.grid.specs.declared.candidate.Candidate.{Candidate}
 use Rattle.sheet.proofs.Settled.{settled-refused, settled-status}
 use Rattle.chart.proofs.Outcomes.{Parted, down-within, frame-numbered, frame-parted, parted}
 use Rattle.picker.specs.Images.{lastImage}

@@ -8,7 +8,7 @@ use Rattle.leaves.specs.Constants.{zero, physicalLimit}
 use Rattle.space.specs.declared.vectors.Place.{Place}
 use Rattle.sheet.specs.Content.{Coedge, Sheet}
 use Rattle.sheet.specs.Outcome.{Numbers, refused}
-use Rattle.chart.specs.declared.candidate.Candidate.{Candidate}
+use Rattle.grid.specs.declared.candidate.Candidate.{Candidate}
 use Rattle.picker.specs.Space.{physicalClearance}
 
 -- the larger of `so far` and the deviations of a ring's coedges

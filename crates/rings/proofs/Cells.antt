@@ -21,19 +21,19 @@ module _ {A : Type 0} (d : A) (l ys : List A) (from x : ℕ) (new : length ys �
   front : length (take from l) ≡ from
   front = length-take-le from l (omega arith)
 
-  anew-length : length (anew l ys from x) ≡ length l
+  pub anew-length : length (anew l ys from x) ≡ length l
   anew-length = simp (length-append, length-drop) (omega (arith, front))
 
-  anew-before : (k : ℕ) → k < from → getD (anew l ys from x) k d ≡ getD l k d
+  pub anew-before : (k : ℕ) → k < from → getD (anew l ys from x) k d ≡ getD l k d
   anew-before k h = List·getD-append (take from l) (ys ++ drop x (drop from l)) d k (omega (arith, front)) ∙ getD-take from l k d h
 
   past-front : (k : ℕ) → getD (anew l ys from x) (from + k) d ≡ getD (ys ++ drop x (drop from l)) k d
   past-front k = ap (λ (n : ℕ). getD (anew l ys from x) (n + k) d) (sym front) ∙ getD-append-add (take from l) (ys ++ drop x (drop from l)) k d
 
-  anew-in : (k : ℕ) → k < x → getD (anew l ys from x) (from + k) d ≡ getD ys k d
+  pub anew-in : (k : ℕ) → k < x → getD (anew l ys from x) (from + k) d ≡ getD ys k d
   anew-in k h = past-front k ∙ List·getD-append ys (drop x (drop from l)) d k (omega arith)
 
-  anew-after : (k : ℕ) → from + x ≤ k → getD (anew l ys from x) k d ≡ getD l k d
+  pub anew-after : (k : ℕ) → from + x ≤ k → getD (anew l ys from x) k d ≡ getD l k d
   anew-after k h =
       let n = k - from - x in
       let e : k ≡ from + (x + n) = omega arith in

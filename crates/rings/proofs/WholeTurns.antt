@@ -74,10 +74,10 @@ turns-none half x period h z l k = go x (within-finite half x half-finite l k) l
 -- ---- copies
 
 -- c and the whole turns of u - mid, for a column u
-abbrev moved : Float → Float → Float → Float → Float
+abbrev pub moved : Float → Float → Float → Float → Float
 moved period mid c u = add binary64 c (turns (sub binary64 u mid) period)
 
-moved-squeeze : (period mid c : Float) → T (positive period) → T (finite mid) → T (finite c) → (lo u hi : Float) → T (le lo u) → T (le u hi)
+pub moved-squeeze : (period mid c : Float) → T (positive period) → T (finite mid) → T (finite c) → (lo u hi : Float) → T (le lo u) → T (le u hi)
     → T (eq (moved period mid c lo) (moved period mid c hi)) → T (not (eq (moved period mid c lo) zero)) → moved period mid c u ≡ moved period mid c lo
 moved-squeeze period mid c h m g =
     squeezed (moved period mid c)

@@ -12,7 +12,7 @@ slice-aggregate-chosen-over : tie.Need-slice-aggregate-chosen-over
 slice-aggregate-chosen-over c = sym (length-take-le _ _ (c .before .before .before .pre .1))
 
 chosen-over-requires : tie.Need-chosen-over-requires
-chosen-over-requires c κs = (c .before .before .before .pre .0, sym (length-take-le _ _ (c .before .before .before .pre .1)))
+chosen-over-requires c κs = (c .before .before .before .pre .0, sym (length-take-le _ _ (c .before .before .before .pre .1)), c .before .before .before .pre .1)
 
 returns : tie.Need-returns
 returns c = search needs

@@ -15,7 +15,7 @@ use Rattle.rings.proofs.Cells.{all-grid, grid-cells, over-all}
 use Rattle.rings.proofs.Flat.{length-pairs}
 use Rattle.rings.proofs.Windings.{crossing-small, sum-small}
 use Rattle.chart.specs.Chart.{crossings}
-use Rattle.chart.specs.Grid.{gridPoint}
+use Rattle.rings.specs.Grid.{gridPoint}
 use Rattle.chart.specs.Parts.{ringsFrom, Ascends}
 use Rattle.chart.specs.declared.frame.Frame.{Frame}
 use Rattle.chart.proofs.Rings.{between, ascends-step, end-bound, foldRings, fold-rings-step, fold-rings-end}
