@@ -1,7 +1,7 @@
 -- The grid's lines ascend, so those below a number are the first ones: what the count of them tells, and how it is found from a count nearby.
 -- Each line is a positive number below the next, by evaluation; through a positive number in the middle `lt` is transitive, whatever the last number is.
 use mathlib.Core.Path.{_≡_, refl, sym, subst, _∙_}
-use mathlib.Core.Logic.{_⊎_, inl, inr}
+use mathlib.Core.Logic.{inl, inr}
 use mathlib.Core.Bool.{Bool, true, false, not, xor, _&&_}
 use Prim.Native.Nat.{ℕ, zero, suc, _+_, _-_, _*_, _<_, _≤_}
 use native.Mathlib.Nat.{eq-or-lt-of-le, mul-right-comm, mul-le-mul-right, mul-lt-mul-of-pos-right, lt-of-mul-lt-mul-right}
@@ -9,8 +9,7 @@ use native.Mathlib.Decide.{decLt}
 use native.Mathlib.Omega.{arith}
 use borrow.Author.Tests.{lt-ltb, le-ltb, le-leb, lt-leb}
 use lib.Dec.{T, leb, ltb, ltb→lt, lt→ltb}
-use lib.IntN.{ℤ}
-use lib.Ieee.{Float, nan, inf, fin, up, down, binary64, ofBits, ofInt, div, round, lt}
+use lib.Ieee.{Float, nan, inf, fin, up, down, ofBits, ofInt, div, round, lt}
 use lib.Ieee.Fits.{down-pos, and-l, and-r}
 use Rattle.rings.specs.Grid.{part}
 use Rattle.rings.specs.Lines.{NoneAfter, Below, Parted}

@@ -2,7 +2,6 @@
 use mathlib.Core.Path.{_≡_, refl}
 use Prim.Native.Nat.{ℕ, _+_, _*_, _/_, _%_, _<_}
 use native.Mathlib.Omega.{arith}
-use lib.IntN.{ℤ}
 use lib.Ieee.{Float, binary64, add, sub}
 use Rattle.rings.specs.Coverage.{gained, middle, step, stepOf}
 use Rattle.rings.specs.Grid.{part, gridPoint}

@@ -1,5 +1,5 @@
 -- What an edge flips in a row. In row j + 1, where just one end is above it, the edge cuts the row at one number, and the points before that number flip; in any other row none does.
-use mathlib.Core.Path.{_≡_, refl, ap, _∙_}
+use mathlib.Core.Path.{_≡_, refl}
 use mathlib.Core.Bool.{Bool, true, false, not, xor, _&&_}
 use Prim.Native.Nat.{ℕ, _+_, _*_, _/_, _%_, _<_, _≤_}
 use native.Mathlib.Omega.{arith}

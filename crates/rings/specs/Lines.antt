@@ -2,7 +2,7 @@
 use mathlib.Core.Path.{_≡_}
 use mathlib.Core.Bool.{false, xor, _&&_}
 use mathlib.Core.List.{List}
-use Prim.Native.Nat.{ℕ, _+_, _/_, _%_, _≤_, _<_}
+use Prim.Native.Nat.{ℕ, _+_, _*_, _/_, _%_, _≤_, _<_}
 use lib.Dec.{leb, ltb}
 use lib.Ieee.{Float, lt}
 use lib.ListN.{length, getD}
@@ -43,3 +43,7 @@ byColumns k = gridPoint (k / 31 + 1) (k % 31 + 1)
 unfoldable pub byRows : ℕ → Point
 unfolding gridPoint
 byRows k = gridPoint (k % 31 + 1) (k / 31 + 1)
+
+-- where the grid point in place k of the grid's order stands by rows
+abbrev pub inRows : ℕ → ℕ
+inRows k = k % 31 * 31 + k / 31

@@ -1,5 +1,5 @@
 // One ring: read from its block, moved (rules 1 and 2), measured (rules 3 and 4), normalised (rule 5),
-// and held against a grid point (rules 7 and 8). A ring's points stand in a slice of f64 as u, v of the
+// and held against the grid (rules 7 and 8). A ring's points stand in a slice of f64 as u, v of the
 // first, u, v of the next, and so on; a last number that is no point's is passed over.
 
 mod bounds;

@@ -6,7 +6,7 @@ use crate::grid::part;
 use crate::turns::turns;
 ghost use mathlib.Core.Path.{_≡_};
 ghost use mathlib.Core.Bool.{false, cond, xor};
-ghost use Prim.Native.Nat.{ℕ, _+_, _*_, _/_, _%_, _^_, _≤_, _<_};
+ghost use Prim.Native.Nat.{ℕ, _+_, _^_, _≤_, _<_};
 ghost use lib.Dec.{ltb};
 ghost use lib.IntN.{pos, negsuc, natAbs, _+ℤ_};
 ghost use lib.Ieee.{lt};
@@ -16,7 +16,7 @@ ghost use Rattle.sheet.specs.Lists.{over};
 ghost use Rattle.rings.specs.Segments.{segment};
 ghost use Rattle.rings.specs.Coverage.{flips, insideOf, step, stepOf, windingOf, crossing};
 ghost use Rattle.rings.specs.Grid.{part as partOf, gridPoint, gridOf};
-ghost use Rattle.rings.specs.Lines.{Below, Parted, Holds, byColumns, byRows};
+ghost use Rattle.rings.specs.Lines.{Below, Parted, Holds, byColumns, byRows, inRows};
 
 // The number of grid points.
 const GRID_POINTS: usize = 961;
@@ -102,14 +102,25 @@ fn flip_ring(ring: &[f64], cells: &mut [bool])
     }
 }
 
+// The place, where a row's points stand side by side, of the grid point after the one in place `at`: a
+// row further, and after the last row in the first one again, a point further.
+fn next_row(at: usize) -> usize
+    requires { ⌜ at < 961 ⌝ }
+    ensures { λ r. ⌜ ((k : ℕ) → k < 961 → at ≡ inRows k → r ≡ inRows (k + 1)) ⌝ }
+{
+    if at < 930 { at + 31 } else { at - 929 }
+}
+
 // 1 for each cell that says yes and 0 for any other, from rows into the grid's order.
 fn count_cells(cells: &[bool], crossings: &mut [i64])
     requires { ⌜ (length (now cells) ≡ 961) × (length (now crossings) ≡ 961) ⌝ }
-    ensures { λ _. ⌜ Holds (pos 0) 961 (now (crossings .exit)) (λ (k : ℕ). cond (getD (now (cells .entry)) (k % 31 * 31 + k / 31) false) (pos 1) (pos 0)) ⌝ }
+    ensures { λ _. ⌜ Holds (pos 0) 961 (now (crossings .exit)) (λ (k : ℕ). cond (getD (now (cells .entry)) (inRows k) false) (pos 1) (pos 0)) ⌝ }
 {
+    let mut at = 0usize;
     let mut k = 0usize;
     while k < GRID_POINTS {
-        crossings[k] = if cells[k % 31 * 31 + k / 31] { 1 } else { 0 };
+        crossings[k] = if cells[at] { 1 } else { 0 };
+        at = next_row(at);
         k += 1;
     }
 }

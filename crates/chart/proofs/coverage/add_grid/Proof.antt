@@ -1,5 +1,5 @@
 -- `chart::coverage::add_grid` adds the numbers. The invariant: the sums before k have theirs. A turn adds one, which fits by what the caller owes.
-use mathlib.Core.Path.{_≡_, ap, sym, _∙_}
+use mathlib.Core.Path.{ap, sym, _∙_}
 use mathlib.Core.List.{List}
 use Prim.Native.Nat.{ℕ, _-_, _<_}
 use native.Mathlib.Omega.{arith}

@@ -1,5 +1,4 @@
 -- `rings::grid::lowered` gives the count of the lines below x. The invariant: no line after the count is below x. Where the count's last line is below x, so are all before it; where it is not, the count goes down by one.
-use Prim.Native.Nat.{_-_, _≤_}
 use native.Mathlib.Omega.{arith}
 use borrow.Author.Needs.{needs}
 use Rattle.rings.specs.Lines.{NoneAfter}

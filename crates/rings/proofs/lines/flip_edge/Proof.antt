@@ -1,5 +1,4 @@
 -- `rings::lines::flip_edge` flips what the edge flips: the rows between the two counts are those that part a from b, whichever count is less.
-use mathlib.Core.Path.{_≡_}
 use native.Mathlib.Omega.{arith}
 use Rattle.rings.proofs.Ascending.{parted-up, parted-down}
 use borrow.Author.Needs.{needs}

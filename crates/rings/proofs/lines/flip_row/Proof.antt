@@ -1,11 +1,11 @@
 -- `rings::lines::flip_row` flips the first `count` cells. The invariant: the cells before m have flipped. A turn flips one; those from the count on stay.
-use mathlib.Core.Path.{_≡_, ap, _∙_, sym}
+use mathlib.Core.Path.{sym, ap, _∙_}
 use mathlib.Core.Bool.{Bool, false, not, xor}
 use Prim.Native.Nat.{ℕ, _-_, _≤_}
 use native.Mathlib.Omega.{arith}
 use borrow.Author.Tests.{lt-ltb, le-ltb}
 use lib.Dec.{ltb}
-use lib.ListN.{length, getD}
+use lib.ListN.{getD}
 use Rattle.rings.proofs.Cells.{Changed, none-changed, passed, cell-changed, all-changed}
 use Rattle.rings.proofs.Flips.{flipped, unflipped}
 use Rattle.rings.proofs.lines.flip_row.Statement.{statement}

@@ -1,13 +1,13 @@
 -- `rings::lines::winding_grid` gives the winding at every grid point. The invariant, at every grid point: the fold over the segments that are left, from the point a before place k and the cell, gives the whole answer,
 -- and the cell is at most k in magnitude. A turn adds one segment's step, at most 1 in magnitude, so no sum overflows: a list has fewer than 2 ^ 60 numbers. The closing segment comes after the loop.
-use mathlib.Core.Path.{_≡_, sym, ap, _∙_}
+use mathlib.Core.Path.{_≡_, sym, _∙_}
 use mathlib.Core.List.{List}
 use Prim.Native.Nat.{ℕ, _-_, _/_, _≤_, _<_}
 use native.Mathlib.Omega.{arith}
 use lib.IntN.{ℤ, pos, natAbs}
 use lib.Ieee.{Float}
-use lib.ListN.{length, getD, replicate, length-replicate, getD-replicate}
-use Rattle.sheet.specs.Content.{Point, point, pairs}
+use lib.ListN.{length, getD, length-replicate, getD-replicate}
+use Rattle.sheet.specs.Content.{point, pairs}
 use Rattle.rings.specs.Coverage.{stepOf, windingOf}
 use Rattle.rings.specs.Grid.{gridPoint}
 use Rattle.rings.specs.Lines.{Holds, byColumns}
