@@ -142,7 +142,8 @@ pub fn growth(
 ) -> Result<Growth, String> {
     let mut calls = Vec::new();
     for subject in subjects {
-        calls.push(compared(subject, callee)?);
+        let named = |found| format!("{}: {found}", subject.name);
+        calls.push(compared(subject, callee).map_err(named)?);
     }
     let lane = |k: usize| {
         let exported = &calls[k];
