@@ -66,22 +66,40 @@ struct Seen {
     sheet: Vec<u8>,
 }
 
+impl Lent {
+    /// What is given, with so many places of result.
+    pub fn new(given: &Given, places: usize) -> Lent {
+        Lent {
+            call: given.call,
+            sheet: Guarded::new(given.sheet.clone(), GUARD_BYTE),
+            phase: given.phase,
+            list: Guarded::new(given.numbers(), UNWRITTEN),
+            result: Guarded::new(vec![UNWRITTEN; places], UNWRITTEN),
+        }
+    }
+
+    fn seen(&self, status: u32) -> Seen {
+        Seen {
+            status,
+            result: self.result.bits(),
+            list: self.list.bits(),
+            sheet: self.sheet.storage.clone(),
+        }
+    }
+
+    /// After a call with this status and a result list of five: the first thing in
+    /// which what is seen differs from what the call must leave behind.
+    pub fn difference(&self, status: u32, given: &Given, left: &Left) -> Option<String> {
+        let theirs = expected(given, left.status, &left.numbers, &left.list);
+        self.seen(status).difference(&theirs)
+    }
+}
+
 /// What a call with so many places of result leaves behind.
 fn seen(callee: Callee, given: &Given, places: usize) -> Seen {
-    let mut lent = Lent {
-        call: given.call,
-        sheet: Guarded::new(given.sheet.clone(), GUARD_BYTE),
-        phase: given.phase,
-        list: Guarded::new(given.numbers(), UNWRITTEN),
-        result: Guarded::new(vec![UNWRITTEN; places], UNWRITTEN),
-    };
+    let mut lent = Lent::new(given, places);
     let status = callee(&mut lent);
-    Seen {
-        status,
-        result: lent.result.bits(),
-        list: lent.list.bits(),
-        sheet: lent.sheet.storage,
-    }
+    lent.seen(status)
 }
 
 /// What should be seen after a call: the sheet is never written.

@@ -6,6 +6,7 @@ extern crate self as cadmpeg_ir;
 extern crate self as serde_json;
 
 pub mod after;
+pub mod bench;
 mod big_endian;
 pub mod call;
 pub mod compare;

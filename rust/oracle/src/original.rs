@@ -2,6 +2,9 @@
 //! shims hand out the sheet's numbers.
 
 mod after;
+mod prepared;
+
+pub use prepared::Prepared;
 
 use std::f64::consts::PI;
 
@@ -86,9 +89,8 @@ impl Copy {
     }
 
     fn pick_evaluated(&self, sheet: &Sheet, phase: u32, evaluation: Evaluation) -> Run {
-        let phase = if phase == 0 { 0.0 } else { PI };
         self.run(sheet, evaluation, |rows| {
-            (self.pick)(&rows.context, &rows.face, &rows.geometry, phase)
+            (self.pick)(&rows.context, &rows.face, &rows.geometry, angle(phase))
         })
     }
 
@@ -124,6 +126,15 @@ impl Copy {
             calls: scene.calls,
             record: recorder::record(),
         }
+    }
+}
+
+/// What `pick` is handed for document 01's phase.
+fn angle(phase: u32) -> f64 {
+    if phase == 0 {
+        0.0
+    } else {
+        PI
     }
 }
 

@@ -113,7 +113,7 @@ fn with_a_slot(side: f64) -> Sheet {
 
 /// Two equal squares, covering nothing, and a dart around (0.5, 0.5), whose best
 /// clearance is the distance from there to `notch` where that is about 0.01.
-pub(crate) fn dart(notch: Uv) -> Vec<Ring> {
+pub fn dart(notch: Uv) -> Vec<Ring> {
     let corners = [
         notch,
         [0.515, 0.47],

@@ -88,6 +88,14 @@ pub fn take() -> Option<Scene> {
     SCENE.with(RefCell::take)
 }
 
+/// Makes room for the evaluations of another run on the same scene.
+pub fn forget_calls() {
+    with(|scene| {
+        scene.calls.clear();
+        Some(())
+    });
+}
+
 /// None where no scene is set.
 pub fn with<T>(ask: impl FnOnce(&mut Scene) -> Option<T>) -> Option<T> {
     SCENE.with(|cell| cell.borrow_mut().as_mut().and_then(ask))
