@@ -7,7 +7,7 @@
 use std::env;
 use std::io::ErrorKind;
 use std::path::{Path, PathBuf};
-use std::process::{exit, Command};
+use std::process::Command;
 
 fn main() {
     println!("cargo::rerun-if-changed=build.rs");
@@ -16,7 +16,6 @@ fn main() {
         for line in lines {
             println!("cargo::error={line}");
         }
-        exit(1);
     }
 }
 

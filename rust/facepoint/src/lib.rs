@@ -41,7 +41,7 @@
 //! | Where there is none | the fallbacks [`point_on`] on planes, [`cylinder_point`] on cylinders and cones |
 //! | Bring it where the body stands | [`placed`] |
 //!
-
+//! [`picture::svg`] draws a sheet, with what the picker sees in it.
 //!
 //! # Calls
 //!
@@ -64,6 +64,7 @@ mod archive;
 mod face;
 mod file;
 mod picker;
+pub mod picture;
 mod refusal;
 mod sheet;
 

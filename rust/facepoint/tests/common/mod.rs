@@ -20,6 +20,10 @@ pub fn sample_path(name: &str, extension: &str) -> PathBuf {
     repository("samples").join(name).with_extension(extension)
 }
 
+pub fn picture_path(name: &str) -> PathBuf {
+    repository("docs/pictures").join(name).with_extension("svg")
+}
+
 pub fn sample(name: &str) -> Sheet {
     Sheet::from_file(sample_path(name, "sheet")).expect("a committed sample")
 }
