@@ -13,6 +13,7 @@ fn main() {
     println!("cargo::rerun-if-changed=build.rs");
     println!("cargo::rerun-if-env-changed=FACEPOINT_ARCHIVE");
     if let Err(lines) = check_target().and_then(|()| find_archive()).and_then(link) {
+        // Each line is an error of cargo's, which then stops.
         for line in lines {
             println!("cargo::error={line}");
         }

@@ -66,7 +66,8 @@ fn pick([x, y, z, clearance, covered]: Five) -> Pick {
 ///
 /// # Errors
 ///
-/// Refusals 1 to 8 and 11 to 14.
+/// Refusals 1 to 8 and 11 to 14. (9 cannot come: the list that is lent to the call has
+/// room for every point.)
 pub fn chart(sheet: &Sheet, phase: Phase) -> Result<Chart, Refusal> {
     let mut points = vec![[0.0; 2]; sheet.point_count()];
     let lent = points.as_flattened_mut();

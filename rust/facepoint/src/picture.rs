@@ -58,9 +58,9 @@ struct Drawn {
 impl Seen {
     fn of(sheet: &Sheet) -> Seen {
         let face = sheet.face();
-        let torus = matches!(&face, Some(face) if face.kind == Kind::Torus);
+        let kind = face.as_ref().map(|face| face.kind);
         let (phase, chart) = match chart(sheet, Phase::Zero) {
-            Err(_) if torus => (Phase::One, chart(sheet, Phase::One)),
+            Err(_) if kind == Some(Kind::Torus) => (Phase::One, chart(sheet, Phase::One)),
             chart => (Phase::Zero, chart),
         };
         let searched = matches!(chart, Ok(_) | Err(Refusal::NoneClear));
@@ -74,8 +74,8 @@ impl Seen {
                 grid,
             }
         });
-        let plane = matches!(&drawn, Some(drawn) if matches!(drawn.face.kind, Kind::Plane(_)));
         let answer = chart.and_then(|chart| {
+            let plane = matches!(kind, Some(Kind::Plane(_)));
             let pick = plane.then(|| plane_pick(sheet)).transpose()?;
             Ok(Point { chart, pick })
         });

@@ -383,9 +383,9 @@ impl Sheet {
         Sense::of_code(*self.bytes.get(6)?)
     }
 
-    /// The number of points of a sheet that the picker's checks of the layout let
-    /// pass: what is neither head, plane nor a ring's count is coedges. Of other bytes
-    /// it is a number that no call looks at, and no greater one.
+    /// The number of points, where the layout reads: what is neither head, plane nor a
+    /// ring's count is coedges. Of other bytes, which a call refuses before it looks at
+    /// any list, it is some number that is no greater than the largest sheet's.
     pub(crate) fn point_count(&self) -> usize {
         let rings = self.bytes.get(7).copied().unwrap_or(0);
         let plane = if self.kind_code() == Some(PLANE_CODE) {

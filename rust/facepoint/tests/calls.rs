@@ -318,8 +318,8 @@ fn transforms() {
     assert_eq!(placed(&turn, [1.0, 2.0, 3.0]), Ok([8.0, 21.0, 33.0]));
     let refused = placed(&turn, [f64::NAN, 0.0, 0.0]);
     assert_eq!(refused, Err(Refusal::Argument));
-    let refused = placed(&turn, [0.0, 0.0, f64::MAX]).map(|point| point[2]);
-    assert_eq!(refused, Ok(f64::MAX));
+    let far = placed(&turn, [0.0, 0.0, f64::MAX]);
+    assert_eq!(far, Ok([10.0, 20.0, f64::MAX]));
     let refused = placed(&[[f64::MAX; 4]; 3], [1.0; 3]);
     assert_eq!(refused, Err(Refusal::NotFinite));
 }

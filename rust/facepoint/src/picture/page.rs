@@ -8,10 +8,11 @@ use super::trims::Trims;
 use super::{Drawn, Point, Seen};
 use crate::{Face, Kind, Phase, Refusal, Sense, Uv};
 
-/// Sizes on the page. A plot's longer side is `PLOT`, and its shorter one at least
-/// `NARROWEST`.
+/// Sizes on the page. A plot's longer side is `PLOT`, its shorter one at least
+/// `NARROWEST`, and the lines below it have room on a page of `LEAST_WIDTH`.
 const PLOT: f64 = 440.0;
 const NARROWEST: f64 = PLOT / 3.0;
+const LEAST_WIDTH: f64 = 520.0;
 const LEFT: f64 = 92.0;
 const TOP: f64 = 84.0;
 const GAP: f64 = 32.0;
@@ -23,8 +24,8 @@ const EDGE: f64 = 2.0;
 /// The least distance of two grid points, in parts of the plot's side.
 const STEP: f64 = 1.0 / 32.0;
 
-/// Rings have these in turn; a sheet that is not refused has no more than 16. None is
-/// near the blue of the grid or the red of the answer.
+/// Rings have these in turn; a sheet that is not refused has no more than 16. They keep
+/// away from the grid's blue and the answer's red.
 const COLOURS: [&str; 16] = [
     "#24323f", "#e07b00", "#2a9134", "#8e3fb0", "#8a5a3b", "#d6369a", "#7d7a00", "#00938f",
     "#b58900", "#5a4fcf", "#5f9e1f", "#c2607f", "#4d6b7c", "#a34a17", "#7a8794", "#4f6228",
@@ -170,7 +171,7 @@ impl Page {
     }
 
     fn width(&self) -> f64 {
-        LEFT + self.plot[0] + GAP + LEGEND + MARGIN
+        (LEFT + self.plot[0] + GAP + LEGEND + MARGIN).max(LEAST_WIDTH)
     }
 
     /// Where plot and legend end.
@@ -284,17 +285,20 @@ impl Page {
         line
     }
 
-    /// The chosen point's place in the unit box, around a period in every copy.
+    /// The chosen point's place on the page, around a period in every copy whose
+    /// clearance touches the box.
     fn copies(&self, drawn: &Drawn, point: &Point) -> Vec<[String; 2]> {
         let trims = &drawn.trims;
         let [u, v] = point.chart.uv;
         let v = v + shift(drawn.phase);
         let u = (u - trims.low[0]) / trims.scale[0];
         let v = (v - trims.low[1]) / trims.scale[1];
-        let copies = match trims.period {
+        let mut copies = match trims.period {
             Some(period) => vec![u - period, u, u + period],
             None => vec![u],
         };
+        let reach = point.chart.clearance;
+        copies.retain(|u| u + reach > 0.0 && u - reach < 1.0);
         copies.into_iter().map(|u| self.at([u, v])).collect()
     }
 

@@ -10,8 +10,9 @@ pub(super) fn place(x: f64) -> String {
     text.into()
 }
 
-/// A number to six digits.
+/// A number to six digits; a −0 is 0.
 pub(super) fn short(x: f64) -> String {
+    let x = x + 0.0;
     let text = format!("{x:.5e}");
     let (digits, exponent) = text.split_once('e').expect("written so");
     match exponent.parse::<i32>() {
@@ -56,7 +57,7 @@ mod tests {
     fn numbers_have_six_digits() {
         let shown = [
             (0.0, "0"),
-            (-0.0, "-0"),
+            (-0.0, "0"),
             (1.0, "1"),
             (0.15625, "0.15625"),
             (0.13258252147247765, "0.132583"),
