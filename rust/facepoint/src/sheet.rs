@@ -112,9 +112,9 @@ impl Sense {
 /// One edge of a ring in the face's chart, in the direction in which the ring goes.
 #[derive(Clone, Copy, Debug, PartialEq)]
 pub struct Coedge {
-    /// How far, in space, the points may lie from the true edge: the greatest
-    /// residual of the caller's sampling. A pick keeps clear of the trims by more
-    /// than eight times the greatest of a sheet.
+    /// How far the points may be off, in space: the greatest residual of finding u and
+    /// v for the edge's points, and 0 where the edge has a curve in u and v. A pick
+    /// keeps clear of the trims by more than eight times the greatest of a sheet.
     pub deviation: f64,
     /// Points of the edge, its two ends among them. [`sample_parameter`] gives the
     /// parameters at which to take them.

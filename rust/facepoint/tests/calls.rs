@@ -229,6 +229,11 @@ fn directions_of_trims() {
     assert_eq!(direction([from, to], [from, to]), answer(false, true));
     assert_eq!(direction([to, from], [from, to]), answer(true, true));
     assert_eq!(direction([from, far], [from, to]), answer(false, false));
+    // The last image is nearer to the start, though the end is farther from the first.
+    let on_axis = |x: f64| [x, 0.0, 0.0];
+    let images = [on_axis(0.0), on_axis(1.0)];
+    let ends = [on_axis(0.6), on_axis(5.0)];
+    assert_eq!(direction(images, ends), answer(true, false));
     let nowhere = [f64::INFINITY, 0.0, 0.0];
     let refused = direction([from, to], [from, nowhere]);
     assert_eq!(refused, Err(Refusal::Argument));
@@ -250,6 +255,10 @@ fn triangles_of_a_sphere() {
         let refused = spherical_triangle(&whole, sense);
         assert_eq!(refused, Err(Refusal::NoInterior), "{sense:?}");
     }
+    // The middle goes by the ends, and not by what was evaluated near them.
+    let mut near = whole;
+    near.sides[0].evaluated[0][0] += 5e-6;
+    assert_eq!(forward(&near), Ok(middle));
     let mut side_off = whole;
     side_off.sides[2].circle_centre = [0.0, 0.0, 1e-3];
     assert_eq!(forward(&side_off), Err(Refusal::Side));
@@ -258,6 +267,20 @@ fn triangles_of_a_sphere() {
         ..whole
     };
     assert_eq!(forward(&no_radius), Err(Refusal::Argument));
+}
+
+#[test]
+fn triangles_stand_anywhere() {
+    let moved = |p: Xyz| [p[0] + 1.0, p[1] + 2.0, p[2] + 3.0];
+    let mut triangle = octant();
+    triangle.centre = moved(triangle.centre);
+    for side in &mut triangle.sides {
+        side.ends = side.ends.map(moved);
+        side.circle_centre = moved(side.circle_centre);
+        side.evaluated = side.evaluated.map(moved);
+    }
+    let middle = spherical_triangle(&triangle, Sense::Forward);
+    assert_eq!(middle, Ok(moved([1.0 / 3.0f64.sqrt(); 3])));
 }
 
 /// Every number of a side has its own place in the call's list.
@@ -289,7 +312,8 @@ fn vertex_fallback() {
         [0.0, 0.0, 4.0],
     ];
     let point = |corners: &[Xyz]| point_on(u_axis, normal, corners);
-    assert!(point(&corners).is_ok_and(|[.., z]| z == 4.0));
+    // The middle of the first corner with its neighbours lies outside of the dart.
+    assert_eq!(point(&corners), Ok([4.0, 3.0, 4.0]));
     assert_eq!(point(&corners[..2]), Err(Refusal::CornerCount));
     assert_eq!(point(&[corners[0]; 129]), Err(Refusal::CornerCount));
     assert_eq!(point(&[corners[0]; 3]), Err(Refusal::NoTriple));

@@ -32,13 +32,17 @@ fn draw(paths: &[&Path]) -> Output {
 }
 
 /// `cargo test` builds the examples beside the tests, whose folder is deps/.
-fn pick_files(paths: &[&Path]) -> Output {
+fn example(name: &str, paths: &[&Path]) -> Output {
     let here = std::env::current_exe().expect("this test");
     let folder = here.ancestors().nth(2).expect("above deps/");
-    let program = folder.join("examples/pick_files");
+    let program = folder.join("examples").join(name);
     let missing = "`cargo test` builds it, and `cargo test --test programs` does not";
     assert!(program.is_file(), "{}: {missing}", program.display());
     run(&program, paths)
+}
+
+fn pick_files(paths: &[&Path]) -> Output {
+    example("pick_files", paths)
 }
 
 fn said(bytes: &[u8]) -> &str {
@@ -130,6 +134,24 @@ fn files_at_the_limit_are_read() {
     let path = file(&folder("limit"), "longest.sheet", &bytes);
     let sheet = Sheet::from_file(path).expect("65,536 bytes");
     assert_eq!(sheet.bytes(), bytes);
+}
+
+#[test]
+fn body_has_its_points() {
+    let output = example("body", &[]);
+    assert!(output.status.success());
+    let lines: Vec<&str> = said(&output.stdout).lines().collect();
+    let starts = [
+        "washer: ",
+        "wall: -0.390181 1.961571 10.500000, Grid { phase: Zero, ",
+        "throat: -0.390181 1.961571 10.000000, Grid { phase: One, ",
+        "corner: -1.732051 1.732051 11.732051, Triangle",
+        "rim: refusal 14: ",
+    ];
+    assert_eq!(lines.len(), starts.len());
+    for (line, start) in lines.iter().zip(starts) {
+        assert!(line.starts_with(start), "{line}");
+    }
 }
 
 #[test]
