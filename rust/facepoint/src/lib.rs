@@ -51,10 +51,10 @@
 //!
 //! # Building
 //!
-//! The build script links the archive that FACEPOINT_ARCHIVE names, else the
-//! repository's target/staticlib/libcapi.a; where neither is there it has the archive
-//! built by `rt staticlib capi`, which wants the Rattle kit and some minutes. The
-//! archive is for x86-64 Linux.
+//! The build script links the archive that the environment names by FACEPOINT_ARCHIVE
+//! (its whole path), else the repository's target/staticlib/libcapi.a; where neither is
+//! there it has the archive built by `rt staticlib capi`, which wants the Rattle kit
+//! and some minutes. The archive is for x86-64 Linux.
 
 #![deny(missing_docs, unsafe_code)]
 

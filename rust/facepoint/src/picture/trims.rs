@@ -47,18 +47,7 @@ impl Trims {
         let band = face.kind == Kind::Torus && rings.iter().any(goes_around);
         let periodic = band || matches!(face.kind, Kind::Cylinder | Kind::Cone);
 
-        let [mut low, high] = bounds(rings.iter().flatten());
-        let mut scale = [high[0] - low[0], high[1] - low[1]];
-        if periodic && TAU < scale[0] {
-            scale[0] = TAU;
-        }
-        // A box without width, which check 12 refuses, is drawn in the middle of one.
-        for axis in [0, 1] {
-            if scale[axis] <= 1e-12 {
-                low[axis] -= 0.5;
-                scale[axis] = 1.0;
-            }
-        }
+        let [low, scale] = box_of(&rings, periodic);
         for point in rings.iter_mut().flatten() {
             *point = [0, 1].map(|axis| (point[axis] - low[axis]) / scale[axis]);
         }
@@ -174,18 +163,28 @@ fn moved(ring: &Ring, kind: Kind, phase: Phase) -> Vec<Uv> {
     points
 }
 
-/// Rule 3's least and greatest; of no points, a box around 0.
-fn bounds<'a>(points: impl Iterator<Item = &'a Uv> + Clone) -> [Uv; 2] {
-    if points.clone().next().is_none() {
-        return [[0.0; 2]; 2];
+/// Rule 3's least u and v, and the scales; periodic caps that of u. A box without width,
+/// which check 12 refuses, is widened to both sides.
+fn box_of(rings: &[Vec<Uv>], periodic: bool) -> [Uv; 2] {
+    let mut least = [0.0; 2];
+    let mut scale = [0.0; 2];
+    for axis in [0, 1] {
+        let all = || rings.iter().flatten().map(|point| point[axis]);
+        if let (Some(low), Some(high)) = (all().reduce(f64::min), all().reduce(f64::max)) {
+            least[axis] = low;
+            scale[axis] = high - low;
+        }
     }
-    let fold = |axis: usize, start: f64, keep: fn(f64, f64) -> f64| {
-        points.clone().fold(start, |kept, p| keep(kept, p[axis]))
-    };
-    [
-        [0, 1].map(|axis| fold(axis, f64::INFINITY, f64::min)),
-        [0, 1].map(|axis| fold(axis, f64::NEG_INFINITY, f64::max)),
-    ]
+    if periodic && TAU < scale[0] {
+        scale[0] = TAU;
+    }
+    for axis in [0, 1] {
+        if scale[axis] <= 1e-12 {
+            least[axis] -= 0.5;
+            scale[axis] = 1.0;
+        }
+    }
+    [least, scale]
 }
 
 fn segments(ring: &[Uv]) -> impl Iterator<Item = (Uv, Uv)> + '_ {
@@ -241,7 +240,7 @@ mod tests {
     use std::f64::consts::{PI, TAU};
 
     use super::Trims;
-    use crate::{chart, Coedge, Face, Kind, Phase, Plane, Refusal, Ring, Sense, Sheet, Uv};
+    use crate::{chart, Chart, Coedge, Face, Kind, Phase, Plane, Refusal, Ring, Sense, Sheet, Uv};
 
     fn sample(name: &str) -> Face {
         let folder = concat!(env!("CARGO_MANIFEST_DIR"), "/../../samples");
@@ -309,51 +308,49 @@ mod tests {
         faces
     }
 
-    /// Points, count, clearance and choice are the calls', bit for bit.
+    /// Holds points, count, clearance and choice against an answer, bit for bit.
+    fn hold(face: &Face, phase: Phase, chart: &Chart) {
+        let shift = if phase == Phase::One { PI } else { 0.0 };
+        let moved = face.rings.iter();
+        let moved = moved.flat_map(|ring| super::moved(ring, face.kind, phase));
+        let moved: Vec<Uv> = moved.map(|[u, v]| [u, v - shift]).collect();
+        assert_eq!(moved, chart.points);
+
+        let trims = Trims::of(face, phase);
+        let (mut count, mut chosen, mut greatest) = (0, [0.0; 2], 0.0);
+        for point in trims.grid() {
+            let Some(clearance) = point.clearance else {
+                continue;
+            };
+            count += 1;
+            if clearance > greatest {
+                (chosen, greatest) = (point.place, clearance);
+            }
+        }
+        assert_eq!(count, chart.count);
+        assert_eq!(greatest.to_bits(), chart.clearance.to_bits());
+        let at = |axis: usize| trims.low[axis] + chosen[axis] * trims.scale[axis];
+        assert_eq!([at(0), at(1) - shift], chart.uv);
+    }
+
     #[test]
     fn trims_and_grid_are_the_charts() {
         let mut answers = [0; 2];
         for face in faces() {
-            for phase in [Phase::Zero, Phase::One] {
-                let chart = match chart(&face.sheet().expect("few rings"), phase) {
-                    Ok(chart) => chart,
+            let sheet = face.sheet().expect("few rings");
+            for (phase, answers) in [Phase::Zero, Phase::One].into_iter().zip(&mut answers) {
+                match chart(&sheet, phase) {
+                    Ok(chart) => {
+                        hold(&face, phase, &chart);
+                        *answers += 1;
+                    }
                     Err(Refusal::NoneClear) => {
                         let grid = Trims::of(&face, phase).grid();
-                        let clear = grid.iter().filter_map(|point| point.clearance);
-                        assert!(clear.into_iter().all(|clearance| clearance <= 0.01));
-                        continue;
+                        let mut clearances = grid.iter().filter_map(|point| point.clearance);
+                        assert!(clearances.all(|clearance| clearance <= 0.01));
                     }
-                    Err(_) => continue,
-                };
-                answers[phase.number() as usize] += 1;
-                let shift = if phase == Phase::One { PI } else { 0.0 };
-                let moved: Vec<Uv> = face
-                    .rings
-                    .iter()
-                    .flat_map(|ring| super::moved(ring, face.kind, phase))
-                    .map(|[u, v]| [u, v - shift])
-                    .collect();
-                assert_eq!(moved, chart.points);
-
-                let trims = Trims::of(&face, phase);
-                let grid = trims.grid();
-                let covered = grid.iter().filter_map(|p| Some((p.place, p.clearance?)));
-                assert_eq!(covered.clone().count(), chart.count as usize);
-                let best =
-                    covered.fold(
-                        ([0.0; 2], 0.0),
-                        |best, point| {
-                            if point.1 > best.1 {
-                                point
-                            } else {
-                                best
-                            }
-                        },
-                    );
-                let (place, clearance) = best;
-                assert_eq!(clearance.to_bits(), chart.clearance.to_bits());
-                let at = |axis: usize| trims.low[axis] + place[axis] * trims.scale[axis];
-                assert_eq!([at(0), at(1) - shift], chart.uv);
+                    Err(_) => {}
+                }
             }
         }
         assert!(answers[0] > 30 && answers[1] > 8, "{answers:?}");
