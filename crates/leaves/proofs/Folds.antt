@@ -46,6 +46,17 @@ module _ {A S : Type 0} (step : S → A → S) (P : S → Type 0) (Q : A → Typ
       ap (λ (z : S). foldl step z l) (swaps s a b p (h .0) (h .1 .0) ∙ ap (λ (x : A). step (step s x) a) e₂ ∙ ap (step (step s a′)) e₁)
   fold-perm swaps (List·Permᴰ·trans d₁ d₂) h s p = fold-perm swaps d₁ h s p ∙ fold-perm swaps d₂ (all-perm Q d₁ h) s p
 
+-- a state that no step changes
+pub fold-stays : {A S : Type 0} (step : S → A → S) (s : S) → ((a : A) → step s a ≡ s) → (xs : List A) → foldl step s xs ≡ s
+fold-stays step s h [] = refl
+fold-stays {S = S} step s h (x ∷ xs) = ap (λ (z : S). foldl step z xs) (h x) ∙ fold-stays step s h xs
+
+-- what is seen of the state, where each step's can be told from what was seen before it
+pub fold-seen : {A S R : Type 0} (step : S → A → S) (seen : S → R) (told : R → A → R) (P : S → Type 0) → ((s : S) (a : A) → P s → P (step s a)) → ((s : S) (a : A) → P s → seen (step s a) ≡ told (seen s) a)
+    → (xs : List A) (s : S) → P s → seen (foldl step s xs) ≡ foldl told (seen s) xs
+fold-seen step seen told P keeps tells [] s p = refl
+fold-seen {R = R} step seen told P keeps tells (x ∷ xs) s p = fold-seen step seen told P keeps tells xs (step s x) (keeps s x p) ∙ ap (λ (r : R). foldl told r xs) (tells s x p)
+
 -- where the steps commute at every state and element
 pub fold-perm-always : {A S : Type 0} (step : S → A → S) → ((s : S) (a b : A) → step (step s a) b ≡ step (step s b) a) → {xs ys : List A} → List·Permᴰ xs ys → (s : S) → foldl step s xs ≡ foldl step s ys
 fold-perm-always {A} {S} step swaps {xs} d s =

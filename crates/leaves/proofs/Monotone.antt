@@ -1,10 +1,10 @@
 -- The rounded operations keep the order. Two signed fractions in order round to values in order, overflow to an infinity included: the magnitudes do, the other sign turns them
 -- round, and at the middle a zero of either sign equals the other. A sum is a signed fraction rounded once, and so is a product with or a quotient by a value above 0: each keeps the order
--- because its exact fraction does. An infinity among the operands stays at its end of the order; a sum is a NaN only of two opposite infinities.
+-- because its exact fraction does, and a square where there is no sign. An infinity among the operands stays at its end of the order; a sum is a NaN only of two opposite infinities.
 use mathlib.Core.Path.{_≡_, refl, sym, ap, _∙_, subst, subst₂}
 use mathlib.Core.Bool.{Bool, true, false, not, cond, true≢false}
 use Prim.Native.Nat.{ℕ, _+_, _-_, _*_, _≤_, _<_}
-use native.Mathlib.Nat.{le-refl, mul-comm, mul-mul-mul-comm, mul-pos}
+use native.Mathlib.Nat.{le-refl, mul-comm, mul-le-mul, mul-mul-mul-comm, mul-pos}
 use native.Mathlib.Omega.{arith}
 use lib.IntN.{ℤ, pos}
 use lib.Dec.{T, ltb, ltb→lt, nltb→le}
@@ -224,3 +224,27 @@ mul-number f x p h n = le-left (mul f x p) (mul f x p) (mul-mono f x x p h (le-s
 
 pub div-number : (f : Format) (x p : Float) → T (positive p) → T (not (isNan x)) → T (not (isNan (div f x p)))
 div-number f x p h n = le-left (div f x p) (div f x p) (div-mono f x x p h (le-self x n))
+
+-- ---- squares, of values without a sign
+
+square-finite : (f : Format) (m : ℕ) (e : ℤ) (n : ℕ) (d : ℤ) → T (le (fin false m e) (fin false n d)) → T (le (mul f (fin false m e) (fin false m e)) (mul f (fin false n d) (fin false n d)))
+unfolding mul
+square-finite f m e n d l =
+    let h = le→ordered false m e false n d l in
+    round-mono f (m * up e * (m * up e)) (down e * down e) (n * up d * (n * up d)) (down d * down d) (mul-pos (down-pos e) (down-pos e)) (mul-pos (down-pos d) (down-pos d))
+    (subst₂ (λ (x y : ℕ). x ≤ y) (mul-mul-mul-comm (m * up e) (down d) (m * up e) (down d)) (mul-mul-mul-comm (n * up d) (down e) (n * up d) (down e)) (mul-le-mul h h))
+
+pub square-mono : (f : Format) (x y : Float) → sign x ≡ false → sign y ≡ false → T (le x y) → T (le (mul f x x) (mul f y y))
+unfolding mul le
+square-mono f nan y p q l = absurd l
+square-mono f (inf true) y p q l = absurd (true≢false p)
+square-mono f (inf false) nan p q l = absurd l
+square-mono f (inf false) (inf true) p q l = absurd l
+square-mono f (inf false) (inf false) p q l = tt
+square-mono f (inf false) (fin t n d) p q l = absurd l
+square-mono f (fin true m e) y p q l = absurd (true≢false p)
+square-mono f (fin false m e) nan p q l = absurd l
+square-mono f (fin false m e) (inf true) p q l = absurd l
+square-mono f (fin false m e) (inf false) p q l = highest (mul f (fin false m e) (fin false m e)) (round-number f false (m * up e * (m * up e)) (down e * down e) (mul-pos (down-pos e) (down-pos e)))
+square-mono f (fin false m e) (fin true n d) p q l = absurd (true≢false q)
+square-mono f (fin false m e) (fin false n d) p q l = square-finite f m e n d l
