@@ -1,42 +1,73 @@
--- The physical clearance by keys: a distance in space is the hypotenuse of its key, so the least distance is that of the least key. No distance is -0, so it is the same for every order of the rings.
-use mathlib.Core.Path.{_≡_, sym, ap₂, fun-ext, _∙_}
-use mathlib.Core.Bool.{false}
+-- The physical clearance against a limit: it is not above the limit where the distance to one of the segments is not, told one segment after the other, and once one is near the rest change nothing. A limit that is
+-- not below infinity it is never above. No distance is -0, so the clearance is the same for every order of the rings.
+use mathlib.Core.Path.{_≡_, refl, ap, _∙_}
+use mathlib.Core.Bool.{Bool, true, false, not, _||_}
 use mathlib.Core.List.{List, foldl, List·Permᴰ}
-use lib.Ieee.{Float, inf, binary64}
+use lib.Dec.{T}
+use lib.Ieee.{Float, inf, binary64, fits, isNan, lt}
 use lib.Ieee.Fits.{inf-fits}
-use Rattle.leaves.specs.Hypot.{hypotOf, hypotOfKey}
-use Rattle.leaves.proofs.Choices.{Clear}
-use Rattle.leaves.proofs.Hypotenuses.{Key, key-is, inf-key, hypot-of-inf, hypot3-by-key, hypot3-clear}
+use Rattle.leaves.proofs.Choices.{Clear, smaller-keeps, smaller-number}
+use Rattle.leaves.proofs.Folds.{fold-seen, fold-stays}
+use Rattle.leaves.proofs.Hypotenuses.{hypot3-clear}
+use Rattle.leaves.proofs.Limits.{least-limit}
 use Rattle.space.specs.declared.vectors.Place.{Place}
 use Rattle.rings.specs.Clearance.{leastOf}
-use Rattle.rings.specs.Segments.{Between}
-use Rattle.rings.proofs.LeastDistance.{rings-perm}
-use Rattle.rings.proofs.Nearest.{nearest-by-key}
-use Rattle.picker.specs.Space.{residual, distance, segmentKey, physicalClearance}
+use Rattle.rings.specs.Segments.{Between, segments}
+use Rattle.rings.proofs.LeastDistance.{leastStep, least-fold, least-held, least-number, rings-perm}
+use Rattle.picker.specs.Space.{residual, distance, physicalClearance}
+use Rattle.picker.specs.Stages.{isNear, anyNear}
 
-module _ (p : Place) where
-  -- ---- one segment
+-- ---- the order of the rings
 
-  pub segment-key : (s : Between Place) → Key (segmentKey p s)
-  unfolding segmentKey
-  segment-key s = key-is (hypotOf (residual p s .x) (residual p s .y)) (residual p s .z)
+pub distance-clear : (p : Place) (s : Between Place) → Clear binary64 (distance p s)
+unfolding distance
+distance-clear p s = hypot3-clear (residual p s .x) (residual p s .y) (residual p s .z)
 
-  pub distance-by-key : (s : Between Place) → distance p s ≡ hypotOfKey (segmentKey p s)
-  unfolding distance segmentKey
-  distance-by-key s = hypot3-by-key (residual p s .x) (residual p s .y) (residual p s .z)
+pub physical-perm : (p : Place) {rings rings′ : List (List Place)} → List·Permᴰ rings rings′ → physicalClearance p rings ≡ physicalClearance p rings′
+unfolding physicalClearance
+physical-perm p d = rings-perm (distance p) (distance-clear p) d (inf false) (inf-fits binary64 false)
 
-  pub distance-clear : (s : Between Place) → Clear binary64 (distance p s)
-  unfolding distance
-  distance-clear s = hypot3-clear (residual p s .x) (residual p s .y) (residual p s .z)
+-- ---- the segments, one after the other
 
-  -- ---- all rings
+module _ (limit : Float) (p : Place) where
+  -- with one segment more
+  abbrev pub nearStep : Bool → Between Place → Bool
+  nearStep b s = b || isNear limit p s
 
-  pub physical-by-key : (rings : List (List Place)) → physicalClearance p rings ≡ hypotOfKey (foldl (leastOf (segmentKey p)) (inf false) rings)
-  unfolding physicalClearance
-  physical-by-key rings =
-      ap₂ (λ (d : Between Place → Float) (start : Float). foldl (leastOf d) start rings) (fun-ext distance-by-key) (sym hypot-of-inf)
-      ∙ nearest-by-key (segmentKey p) segment-key (inf false) rings inf-key
+  pub near-fold : (b : Bool) (ring : List Place) → anyNear limit p b ring ≡ foldl nearStep b (segments ring)
+  unfolding anyNear
+  near-fold b ring = refl
 
-  pub physical-perm : {rings rings′ : List (List Place)} → List·Permᴰ rings rings′ → physicalClearance p rings ≡ physicalClearance p rings′
-  unfolding physicalClearance
-  physical-perm d = rings-perm (distance p) distance-clear d (inf false) (inf-fits binary64 false)
+  pub near-stays : (ss : List (Between Place)) → foldl nearStep true ss ≡ true
+  near-stays = fold-stays nearStep true (λ s. refl)
+
+  pub ring-stays : (rings : List (List Place)) → foldl (anyNear limit p) true rings ≡ true
+  ring-stays = fold-stays (anyNear limit p) true (λ ring. near-fold true ring ∙ near-stays (segments ring))
+
+-- ---- the clearance
+
+-- a least so far
+abbrev Least : Float → Type 0
+Least d = T (fits binary64 d) × T (not (isNan d))
+
+module _ (limit : Float) (held : T (fits binary64 limit)) (p : Place) where
+  abbrev within : Float → Bool
+  within d = not (lt limit d)
+
+  step-keeps : (d : Float) (s : Between Place) → Least d → Least (leastStep (distance p) d s)
+  step-keeps d s h = (smaller-keeps (λ (x : Float). T (fits binary64 x)) d (distance p s) (h .0) (distance-clear p s .held), smaller-number d (distance p s) (h .1))
+
+  step-within : (d : Float) (s : Between Place) → Least d → within (leastStep (distance p) d s) ≡ nearStep limit p (within d) s
+  unfolding isNear
+  step-within d s h = least-limit binary64 limit d (distance p s) held (h .0) (distance-clear p s .held) (h .1)
+
+  ring-keeps : (d : Float) (ring : List Place) → Least d → Least (leastOf (distance p) d ring)
+  ring-keeps d ring h = (least-held (distance p) (distance-clear p) d ring (h .0), least-number (distance p) (distance-clear p) d ring (h .1))
+
+  ring-within : (d : Float) (ring : List Place) → Least d → within (leastOf (distance p) d ring) ≡ anyNear limit p (within d) ring
+  unfolding anyNear
+  ring-within d ring h = ap within (least-fold (distance p) d ring) ∙ fold-seen (leastStep (distance p)) within (nearStep limit p) Least step-keeps step-within (segments ring) d h
+
+  pub clearance-within : (rings : List (List Place)) → not (lt limit (physicalClearance p rings)) ≡ foldl (anyNear limit p) (not (lt limit (inf false))) rings
+  unfolding physicalClearance isNan
+  clearance-within rings = fold-seen (leastOf (distance p)) within (anyNear limit p) Least ring-keeps ring-within rings (inf false) (inf-fits binary64 false, tt)

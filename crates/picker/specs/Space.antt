@@ -4,7 +4,7 @@ use mathlib.Core.List.{List, foldl}
 use lib.Ieee.{Float, inf, binary64, sub, mul, div, lt}
 use Rattle.leaves.specs.Bounds.{clampOf}
 use Rattle.leaves.specs.Constants.{zero, one}
-use Rattle.leaves.specs.Hypot.{keyOf, hypotOf, hypot3Of}
+use Rattle.leaves.specs.Hypot.{hypot3Of}
 use Rattle.space.specs.Vectors.{place, minusOf, dotOf}
 use Rattle.space.specs.declared.vectors.Place.{Place}
 use Rattle.rings.specs.Clearance.{leastOf}
@@ -41,8 +41,3 @@ distance p s = hypot3Of (residual p s .x) (residual p s .y) (residual p s .z)
 unfoldable pub physicalClearance : Place → List (List Place) → Float
 unfolding distance
 physicalClearance p rings = foldl (leastOf (distance p)) (inf false) rings
-
--- ---- the key of the outer of the two hypotenuses, whose order is the distances'
-unfoldable pub segmentKey : Place → Between Place → Float
-unfolding residual
-segmentKey p s = keyOf (hypotOf (residual p s .x) (residual p s .y)) (residual p s .z)

@@ -1,14 +1,15 @@
-// Rule 8 in space. Distances are compared by the leaves' key of the outer hypotenuse; the root of the
-// least is the caller's.
+// Rule 8 in space, held against a limit. A segment is told to be far by the key of two coordinates, and
+// only a near one costs roots.
 use space::Place;
 use space::dot;
 use space::minus;
 use space::place_at;
+ghost use mathlib.Core.Bool.{false};
 ghost use mathlib.Core.Path.{_≡_};
 ghost use Rattle.space.specs.Places.{triples};
-ghost use Rattle.rings.specs.Clearance.{leastOf};
 ghost use Rattle.rings.specs.Segments.{between};
-ghost use Rattle.picker.specs.Space.{left as leftOf, segmentKey};
+ghost use Rattle.picker.specs.Space.{left as leftOf, residual as residualOf};
+ghost use Rattle.picker.specs.Stages.{Far, isNear, anyNear};
 
 // One coordinate of p - a - t x d.
 fn left(from: f64, t: f64, d: f64) -> f64
@@ -17,9 +18,9 @@ fn left(from: f64, t: f64, d: f64) -> f64
     from - t * d
 }
 
-// The key of the distance from p to the segment from a to b.
-fn segment_key(p: Place, a: Place, b: Place) -> f64
-    ensures { λ r. ⌜ r ≡ segmentKey p (between a b) ⌝ }
+// p - a - t x d: from the segment's nearest point to p.
+fn residual(p: Place, a: Place, b: Place) -> Place
+    ensures { λ r. ⌜ r ≡ residualOf p (between a b) ⌝ }
 {
     let d = minus(b, a);
     let from = minus(p, a);
@@ -30,29 +31,46 @@ fn segment_key(p: Place, a: Place, b: Place) -> f64
         0.0
     };
     let t = leaves::clamp(share, 0.0, 1.0);
-    leaves::key(
-        leaves::hypot(left(from.x, t, d.x), left(from.y, t, d.y)),
-        left(from.z, t, d.z),
-    )
+    Place {
+        x: left(from.x, t, d.x),
+        y: left(from.y, t, d.y),
+        z: left(from.z, t, d.z),
+    }
 }
 
-// The least of `key` and the keys of the distances from p to the segments of a ring's images.
-pub(crate) fn nearer(p: Place, key: f64, ring: &[f64]) -> f64
-    ensures { λ r. ⌜ r ≡ leastOf (segmentKey p) key (triples (now (ring .entry))) ⌝ }
+// Whether the distance from p to the segment from a to b is not above the limit. Where its key in x and y
+// reaches `far` it is above.
+fn is_near(limit: f64, far: f64, p: Place, a: Place, b: Place) -> bool
+    requires { ⌜ Far limit far ⌝ }
+    ensures { λ r. ⌜ r ≡ isNear limit p (between a b) ⌝ }
+{
+    let rest = residual(p, a, b);
+    let key = leaves::key(rest.x, rest.y);
+    if far <= key {
+        return false;
+    }
+    leaves::hypot(leaves::hypot_of_key(key), rest.z) <= limit
+}
+
+// Whether the distance from p to one of the segments of a ring's images is not above the limit.
+pub(crate) fn any_near(limit: f64, far: f64, p: Place, ring: &[f64]) -> bool
+    requires { ⌜ Far limit far ⌝ }
+    ensures { λ r. ⌜ r ≡ anyNear limit p false (triples (now (ring .entry))) ⌝ }
 {
     let count = ring.len() / 3;
     if count == 0 {
-        return key;
+        return false;
     }
-    let mut found = key;
     let first = place_at(ring, 0);
     let mut a = first;
     let mut k = 1;
     while k < count {
         let b = place_at(ring, 3 * k);
-        found = leaves::smaller_of(found, segment_key(p, a, b));
+        if is_near(limit, far, p, a, b) {
+            return true;
+        }
         a = b;
         k += 1;
     }
-    leaves::smaller_of(found, segment_key(p, a, first))
+    is_near(limit, far, p, a, first)
 }

@@ -1,16 +1,15 @@
--- `picker::physical::nearest_key` is the least key over the images of all rings. The invariant: the least over the images of the rings whose blocks are left, from the least so far, is the least of all, and those images stand in the list.
--- A turn takes the images of one ring, three numbers a point. A block has at most 71401 bytes, so no place wraps. The measure is how many blocks are left.
+-- `picker::physical::any_ring_near` says whether a segment of the images of any ring is near. The invariant: the answer for the images of the rings whose blocks are left is that for all, as no ring before has a near one, and those images stand in the list.
+-- A turn takes the images of one ring, three numbers a point, and ends the loop where one is near. A block has at most 71401 bytes, so no place wraps. The measure is how many blocks are left.
 use mathlib.Core.Path.{_≡_, sym, ap, _∙_}
 use mathlib.Core.Bool.{false}
 use mathlib.Core.List.{List, [], _∷_, foldl, map}
 use Prim.Native.Nat.{ℕ, _+_, _-_, _*_, _≤_, _<_}
 use native.Mathlib.Nat.{sub-zero, zero-add, add-zero}
 use native.Mathlib.Omega.{arith}
-use lib.Ieee.{Float, inf}
+use lib.Ieee.{Float}
 use lib.ListN.{length, getD, take, drop}
 use lib.Seq.{drop-drop, getD-drop}
 use borrow.Author.Needs.{needs}
-use Rattle.leaves.proofs.ConstantBits.{infinity-bits}
 use Rattle.space.specs.Places.{triples}
 use Rattle.space.specs.declared.vectors.Place.{Place}
 use Rattle.sheet.specs.Content.{Coedge}
@@ -18,12 +17,12 @@ use Rattle.sheet.specs.Layout.{headSize, kind, blockSize, cut, ring, sheetOf}
 use Rattle.sheet.proofs.Blocks.{block-size-at, first-byte, ring-points-length}
 use Rattle.sheet.proofs.Checked.{head-size-most, rings-are}
 use Rattle.sheet.proofs.Walks.{rings-step, rings-end}
-use Rattle.rings.specs.Clearance.{leastOf}
 use Rattle.chart.proofs.Counting.{pointsIn, points-step, count-of-blocks}
 use Rattle.picker.specs.Images.{imageNumbers, ringImages}
-use Rattle.picker.specs.Space.{segmentKey}
-use Rattle.picker.proofs.physical.nearest_key.Statement.{statement}
-use Rattle.picker.proofs.physical.nearest_key.Tie as tie
+use Rattle.picker.specs.Stages.{anyNear}
+use Rattle.picker.proofs.Nearness.{ring-stays}
+use Rattle.picker.proofs.physical.any_ring_near.Statement.{statement}
+use Rattle.picker.proofs.physical.any_ring_near.Tie as tie
 
 -- ---- the images of the rings from the block at a place on
 
@@ -40,8 +39,11 @@ module _ (s : List ℕ) (images : List Float) (n : ℕ) where
   abbrev imagesFrom : ℕ → ℕ → ℕ → List (List Place)
   imagesFrom at from k = ringImages (map ring (cut (n - k) (drop at s))) (drop from images)
 
-  images-step : (at from k : ℕ) → k < n
-      → imagesFrom at from k ≡ triples (take (3 * (17 * getD s at 0)) (drop from images)) ∷ imagesFrom (at + blockSize (drop at s)) (from + 3 * (17 * getD s at 0)) (k + 1)
+  -- of those after it
+  abbrev imagesAfter : ℕ → ℕ → ℕ → List (List Place)
+  imagesAfter at from k = imagesFrom (at + blockSize (drop at s)) (from + 3 * (17 * getD s at 0)) (k + 1)
+
+  images-step : (at from k : ℕ) → k < n → imagesFrom at from k ≡ triples (take (3 * (17 * getD s at 0)) (drop from images)) ∷ imagesAfter at from k
   unfolding ringImages
   images-step at from k more =
       let rest = map ring (cut (n - (k + 1)) (drop (at + blockSize (drop at s)) s)) in
@@ -56,11 +58,11 @@ module _ (s : List ℕ) (images : List Float) (n : ℕ) where
 -- ---- the loop
 
 abbrev Inv-loop : tie.InvT-loop
-Inv-loop s p images at₀ count key₀ from₀ k₀ at key from k =
-    (at ≤ 80 + 71401 * k) × (k ≤ count) × (from + 3 * pointsIn (cut (count - k) (drop at s)) ≤ length images) × (foldl (leastOf (segmentKey p)) key (imagesFrom s images count at from k) ≡ foldl (leastOf (segmentKey p)) (inf false) (ringImages (sheetOf s .rings) images))
+Inv-loop s limit far p images at₀ count from₀ k₀ at from k =
+    (at ≤ 80 + 71401 * k) × (k ≤ count) × (from + 3 * pointsIn (cut (count - k) (drop at s)) ≤ length images) × (foldl (anyNear limit p) false (imagesFrom s images count at from k) ≡ foldl (anyNear limit p) false (ringImages (sheetOf s .rings) images))
 
 abbrev μ-loop : tie.MeasureT-loop
-μ-loop s p images at₀ count key₀ from₀ k₀ at key from k = count - k
+μ-loop s limit far p images at₀ count from₀ k₀ at from k = count - k
 
 byte-at-requires : tie.Need-byte-at-requires Inv-loop μ-loop
 byte-at-requires c κs = search needs
@@ -79,7 +81,7 @@ loop-holds c =
       omega (arith, starts, head-size-most (kind s)),
       omega arith,
       rw (starts, c .byte-at2 .ensures, sub-zero, zero-add) (rw (count-of-blocks s) at (e .pre .1)),
-      rw (starts, c .byte-at2 .ensures, sub-zero, infinity-bits) (ap (λ (rs : List (List Coedge)). foldl (leastOf (segmentKey (e .args .p))) (inf false) (ringImages rs (e .args .images .now))) (sym (rings-are s))),
+      rw (starts, c .byte-at2 .ensures, sub-zero) (ap (λ (rs : List (List Coedge)). foldl (anyNear (e .args .limit) (e .args .p)) false (ringImages rs (e .args .images .now))) (sym (rings-are s))),
     )
 
 byte-at-requires-3 : tie.Need-byte-at-requires-3 Inv-loop μ-loop
@@ -109,27 +111,27 @@ mul-to-2 c = omega arith
 add-to : tie.Need-add-to Inv-loop μ-loop
 add-to c = omega (arith, room c)
 
-mul-nearer : tie.Need-mul-nearer Inv-loop μ-loop
-mul-nearer c = omega (arith, room c)
+mul-any-near : tie.Need-mul-any-near Inv-loop μ-loop
+mul-any-near c = omega (arith, room c)
 
-sub-nearer : tie.Need-sub-nearer Inv-loop μ-loop
-sub-nearer c = omega arith
+sub-any-near : tie.Need-sub-any-near Inv-loop μ-loop
+sub-any-near c = omega arith
 
-part-nearer-start : tie.Need-part-nearer-start Inv-loop μ-loop
-part-nearer-start c = omega arith
+part-any-near-start : tie.Need-part-any-near-start Inv-loop μ-loop
+part-any-near-start c = omega arith
 
-part-nearer-end : tie.Need-part-nearer-end Inv-loop μ-loop
-part-nearer-end c = omega (arith, room c)
+part-any-near-end : tie.Need-part-any-near-end Inv-loop μ-loop
+part-any-near-end c = omega (arith, room c)
 
-nearer-requires : tie.Need-nearer-requires Inv-loop μ-loop
-nearer-requires c κs = search needs
+any-near-requires : tie.Need-any-near-requires Inv-loop μ-loop
+any-near-requires c κs = search needs
 
 block-size-requires : tie.Need-block-size-requires Inv-loop μ-loop
 block-size-requires c κs = search needs
 
 add-at : tie.Need-add-at Inv-loop μ-loop
 add-at c =
-    let l = c .before .before .before .before .before in
+    let l = c .before .before .before .before .before .before in
     omega (arith, c .block-size .ensures, block-size-at (l .before .before .before .before .before .before .args .s .now) (l .loop .at))
 
 add-k : tie.Need-add-k Inv-loop μ-loop
@@ -138,41 +140,52 @@ add-k c = omega arith
 loop-less : tie.Need-loop-less Inv-loop μ-loop
 loop-less c = omega arith
 
--- what the turn found is the least with the ring's images
-key-is : (c : tie.After-nearer Inv-loop μ-loop) →
+-- the answer for the ring that was tested and those after it
+after : (c : tie.After-any-near Inv-loop μ-loop) →
     let b = c .before .before in
-    let l = b .before .before in
-    let x = l .before .before .before .before .before .before .args in
-    c .nearer .result ≡ leastOf (segmentKey (x .p)) (l .loop .key) (triples (take (3 * (17 * getD (x .s .now) (l .loop .at) 0)) (drop (l .loop .from) (x .images .now))))
-key-is c =
-    let b = c .before .before in
-    let l = b .before .before in
-    let x = l .before .before .before .before .before .before .args in
-    let size : l .loop .from + 3 * (17 * b .byte-at3 .result) - l .loop .from ≡ 3 * (17 * getD (x .s .now) (l .loop .at) 0) = omega (arith, b .byte-at3 .ensures) in
-    c .nearer .ensures ∙ ap (λ (n : ℕ). leastOf (segmentKey (x .p)) (l .loop .key) (triples (take n (drop (l .loop .from) (x .images .now))))) size
-
-loop-again : tie.Need-loop-again Inv-loop μ-loop
-loop-again c =
-    let b = c .before .before .before in
     let l = b .before .before in
     let x = l .before .before .before .before .before .before .args in
     let s = x .s .now in
-    let count = l .before .byte-at2 .result in
-    let step = images-step s (x .images .now) count (l .loop .at) (l .loop .from) (l .loop .k) (b .before .loop-test .taken) in (
-      omega (arith, c .block-size .ensures, block-size-at s (l .loop .at)),
-      omega arith,
-      rw (c .block-size .ensures) (room b),
-      rw (key-is (c .before), c .block-size .ensures, b .byte-at3 .ensures) (sym (ap (foldl (leastOf (segmentKey (x .p))) (l .loop .key)) step) ∙ l .loop .inv .3),
-    )
+    foldl (anyNear (x .limit) (x .p)) (c .any-near .result) (imagesAfter s (x .images .now) (l .before .byte-at2 .result) (l .loop .at) (l .loop .from) (l .loop .k))
+    ≡ foldl (anyNear (x .limit) (x .p)) false (ringImages (sheetOf s .rings) (x .images .now))
+after c =
+    let b = c .before .before in
+    let l = b .before .before in
+    let x = l .before .before .before .before .before .before .args in
+    let s = x .s .now in
+    let size : l .loop .from + 3 * (17 * b .byte-at3 .result) - l .loop .from ≡ 3 * (17 * getD s (l .loop .at) 0) = omega (arith, b .byte-at3 .ensures) in
+    let own = c .any-near .ensures ∙ ap (λ (n : ℕ). anyNear (x .limit) (x .p) false (triples (take n (drop (l .loop .from) (x .images .now))))) size in
+    let step = images-step s (x .images .now) (l .before .byte-at2 .result) (l .loop .at) (l .loop .from) (l .loop .k) (b .before .loop-test .taken) in
+    rw own (sym (ap (foldl (anyNear (x .limit) (x .p)) false) step) ∙ l .loop .inv .3)
 
 returns : tie.Need-returns Inv-loop μ-loop
 returns c =
+    let b = c .before .before .before in
+    let l = b .before .before in
+    let x = l .before .before .before .before .before .before .args in
+    let rest = imagesAfter (x .s .now) (x .images .now) (l .before .byte-at2 .result) (l .loop .at) (l .loop .from) (l .loop .k) in
+    sym (ring-stays (x .limit) (x .p) rest) ∙ rw (c .if1 .taken) at (after (c .before))
+
+loop-again : tie.Need-loop-again Inv-loop μ-loop
+loop-again c =
+    let f = c .before in
+    let b = f .before .before .before in
+    let l = b .before .before in
+    let s = l .before .before .before .before .before .before .args .s .now in (
+      omega (arith, c .block-size .ensures, block-size-at s (l .loop .at)),
+      omega arith,
+      rw (c .block-size .ensures) (room b),
+      rw (c .block-size .ensures, b .byte-at3 .ensures) (rw (f .if1 .left) at (after (f .before))),
+    )
+
+returns-2 : tie.Need-returns-2 Inv-loop μ-loop
+returns-2 c =
     let l = c .before in
     let x = l .before .before .before .before .before .before .args in
-    sym (ap (foldl (leastOf (segmentKey (x .p))) (l .loop .key)) (images-end (x .s .now) (x .images .now) (l .before .byte-at2 .result) (l .loop .at) (l .loop .from) (l .loop .k) (c .loop-test .left))) ∙ l .loop .inv .3
+    sym (ap (foldl (anyNear (x .limit) (x .p)) false) (images-end (x .s .now) (x .images .now) (l .before .byte-at2 .result) (l .loop .at) (l .loop .from) (l .loop .k) (c .loop-test .left))) ∙ l .loop .inv .3
 
-pub nearest-key-spec : {M : Type 1} → statement M
-nearest-key-spec =
+pub any-ring-near-spec : {M : Type 1} → statement M
+any-ring-near-spec =
     tie.close
     (tie.spec
     Inv-loop
@@ -186,14 +199,15 @@ nearest-key-spec =
     mul-to
     mul-to-2
     add-to
-    mul-nearer
-    sub-nearer
-    part-nearer-start
-    part-nearer-end
-    nearer-requires
+    mul-any-near
+    sub-any-near
+    part-any-near-start
+    part-any-near-end
+    any-near-requires
+    returns
     block-size-requires
     add-at
     add-k
     loop-less
     loop-again
-    returns)
+    returns-2)

@@ -1,4 +1,4 @@
--- `picker::segments::segment_key` is `segmentKey`: the key of `residual`, call by call. Whichever way the test goes, t is `along`.
+-- `picker::segments::residual` is `residual` of the specs, call by call. Whichever way the test goes, t is `along`.
 use mathlib.Core.Path.{_≡_, _∙_}
 use mathlib.Core.Bool.{cond}
 use mathlib.Core.Logic.{⊎-elim}
@@ -7,9 +7,9 @@ use lib.Ieee.{binary64, div, lt}
 use Rattle.leaves.specs.Constants.{zero}
 use Rattle.space.specs.Vectors.{dotOf}
 use Rattle.rings.specs.Segments.{between}
-use Rattle.picker.specs.Space.{delta, along, residual, segmentKey}
-use Rattle.picker.proofs.segments.segment_key.Statement.{statement}
-use Rattle.picker.proofs.segments.segment_key.Tie as tie
+use Rattle.picker.specs.Space.{delta, along, residual}
+use Rattle.picker.proofs.segments.residual.Statement.{statement}
+use Rattle.picker.proofs.segments.residual.Tie as tie
 
 minus-requires : tie.Need-minus-requires
 minus-requires c κs = search needs
@@ -32,14 +32,8 @@ left-requires c κs = search needs
 left-requires-2 : tie.Need-left-requires-2
 left-requires-2 c κs = search needs
 
-hypot-requires : tie.Need-hypot-requires
-hypot-requires c κs = search needs
-
 left-requires-3 : tie.Need-left-requires-3
 left-requires-3 c κs = search needs
-
-key-requires : tie.Need-key-requires
-key-requires c κs = search needs
 
 share-is : (c : tie.Joined1) → c .if1 .share ≡ cond (lt zero (c .before .dot .result)) (div binary64 (dotOf (c .before .before .minus2 .result) (c .before .before .before .minus .result)) (c .before .dot .result)) zero
 share-is c = ⊎-elim (λ w. w .2 ∙ rw (w .0 .taken, w .1 .ensures)) (λ w. w .1 ∙ rw (w .0 .left)) (c .if1 .came)
@@ -51,14 +45,14 @@ along-is c =
     rw (c .clamp .ensures, share-is (c .before), d .dot .ensures, d .before .minus2 .ensures, d .before .before .minus .ensures)
 
 returns : tie.Need-returns
-unfolding segmentKey residual delta
+unfolding residual delta
 returns c =
-    let t = c .before .before .before .before .before in
+    let t = c .before .before .before in
     let d = t .before .before in
-    rw (c .key .ensures, c .before .before .hypot .ensures, c .before .before .before .before .left .ensures, c .before .before .before .left2 .ensures, c .before .left3 .ensures, along-is t, d .before .minus2 .ensures, d .before .before .minus .ensures)
+    rw (c .left3 .ensures, c .before .left2 .ensures, c .before .before .left .ensures, along-is t, d .before .minus2 .ensures, d .before .before .minus .ensures)
 
-pub segment-key-spec : {M : Type 1} → statement M
-segment-key-spec =
+pub residual-spec : {M : Type 1} → statement M
+residual-spec =
     tie.close
     (tie.spec
     minus-requires
@@ -68,7 +62,5 @@ segment-key-spec =
     clamp-requires
     left-requires
     left-requires-2
-    hypot-requires
     left-requires-3
-    key-requires
     returns)
