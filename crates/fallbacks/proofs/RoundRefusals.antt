@@ -3,7 +3,7 @@ use mathlib.Core.Logic.{inl, inr}
 use mathlib.Core.Path.{_≡_, refl, sym, _∙_}
 use mathlib.Core.Bool.{true, false, _||_}
 use mathlib.Core.List.{List, [], _∷_}
-use Prim.Native.Nat.{_≤_}
+use Prim.Native.Nat.{ℕ, _≤_}
 use native.Mathlib.Omega.{arith}
 use borrow.Author.Tests.{ltb-false}
 use lib.Dec.{eqb, ltb}
@@ -58,10 +58,19 @@ module _ (heights angles : List Float) where
   unfolding cylinderPointOf
   cylinder-refused = settled-zeros (first (check 16 (roundWrong heights angles) ∷ check 22 (heightsWrong heights angles) ∷ [])) (middleAmong heights (cornerAngles angles)) middle-told
 
-  -- a number of the table
-  pub cylinder-status : OneOf (0 ∷ 16 ∷ 22 ∷ 23 ∷ []) (cylinderPointOf heights angles .status)
-  unfolding cylinderPointOf middleAmong
+  -- an answer, and the numbers of the table
+  abbrev statuses : List ℕ
+  statuses = 0 ∷ 16 ∷ 22 ∷ 23 ∷ []
+
+  -- the status is one of them
+  middle-status : OneOf statuses (middleAmong heights (cornerAngles angles) .status)
+  unfolding middleAmong
+  middle-status =
+      settled-holds (OneOf statuses) (first (check 23 (unclear (cornerAngles angles)) ∷ [])) (valued (middleAngle (cornerAngles angles)) (middleHeight heights) zero)
+      (first-holds (OneOf statuses) (inl refl) (check 23 (unclear (cornerAngles angles)) ∷ []) (inr (inr (inr (inl refl))), tt)) (inl refl)
+
+  pub cylinder-status : OneOf statuses (cylinderPointOf heights angles .status)
+  unfolding cylinderPointOf
   cylinder-status =
-      let P : ℕ → Type 0 = OneOf (0 ∷ 16 ∷ 22 ∷ 23 ∷ []) in
-      let middle = settled-holds P _ (valued (middleAngle (cornerAngles angles)) (middleHeight heights) zero) (first-holds P (inl refl) _ (inr (inr (inr (inl refl))), tt)) (inl refl) in
-      settled-holds P _ (middleAmong heights (cornerAngles angles)) (first-holds P (inl refl) _ (inr (inl refl), (inr (inr (inl refl)), tt))) middle
+      settled-holds (OneOf statuses) (first (check 16 (roundWrong heights angles) ∷ check 22 (heightsWrong heights angles) ∷ [])) (middleAmong heights (cornerAngles angles))
+      (first-holds (OneOf statuses) (inl refl) (check 16 (roundWrong heights angles) ∷ check 22 (heightsWrong heights angles) ∷ []) (inr (inl refl), (inr (inr (inl refl)), tt))) middle-status
