@@ -10,7 +10,7 @@ use lib.Ieee.{Float, ofBits}
 use lib.ListN.{length}
 use borrow.Author.Tests.{eq-eqb}
 use Rattle.leaves.specs.Constants.{zero}
-use Rattle.sheet.specs.Outcome.{Numbers, refused}
+use Rattle.sheet.specs.Outcome.{Numbers, refused, OneOf}
 use Rattle.chart.specs.Chart.{chartOf}
 use Rattle.chart.proofs.Refusals.{chart-refused, chart-status-most}
 use Rattle.picker.specs.ImagePick.{imagePickOf}
@@ -24,6 +24,7 @@ use Rattle.fallbacks.specs.Vertices.{pointOnOf}
 use Rattle.fallbacks.proofs.Refusals.{sample-parameter-refused, sample-parameter-status, direction-refused, direction-status, point-on-refused, point-on-status, placed-refused, placed-status}
 use Rattle.fallbacks.proofs.RoundRefusals.{cylinder-refused, cylinder-status}
 use Rattle.triangle.specs.Lists.{triangleListsOf}
+use Rattle.triangle.proofs.Refusals.{statuses}
 use Rattle.triangle.proofs.ListRefusals.{triangle-lists-refused, triangle-lists-status}
 use Rattle.capi.specs.Convention.{Returned, returned, five, returnedOf, seen, seenOf, chartSeen, imagePickReturned, planePickReturned}
 use Rattle.capi.proofs.Five.{other-length, chart-other-length}
@@ -111,36 +112,36 @@ module _ (sheet : List ℕ) (result : List Float) where
 -- ---- the calls after the picker, each lent nothing to write
 
 -- demand 1 of a call, by its six numbers
-pub record Demand1 (n : Numbers) (most : ℕ) : Type 0 where
+pub record Demand1 (n : Numbers) (table : List ℕ) : Type 0 where
   -- a result list of another length gives 1, and is left as it was
   pub unwritten : (result : List Float) → (length result ≡ 5 → ⊥) → returnedOf n result ≡ returned 1 result
   -- a status other than 0 has five zeros beside it
   pub zeroed : (result : List Float) → length result ≡ 5 → (returnedOf n result .status ≡ 0 → ⊥) → returnedOf n result .result ≡ zeros
   -- a number of the table, or 0 for an answer
-  pub numbered : (result : List Float) → length result ≡ 5 → returnedOf n result .status ≤ most
+  pub numbered : (result : List Float) → length result ≡ 5 → OneOf table (returnedOf n result .status)
 
-demand-1 : (n : Numbers) (most : ℕ) → ((n .status ≡ 0 → ⊥) → n ≡ refused (n .status)) → n .status ≤ most → Demand1 n most
-demand-1 n most r l =
+demand-1 : (n : Numbers) (table : List ℕ) → ((n .status ≡ 0 → ⊥) → n ≡ refused (n .status)) → OneOf table (n .status) → Demand1 n table
+demand-1 n table r l =
     record {
       unwritten = λ result h. sym (other-length n result h);
       zeroed = λ result h k. zeros-beside n result h (r (λ e. k (status-is n result h ∙ e)));
-      numbered = λ result h. subst (λ (s : ℕ). s ≤ most) (sym (status-is n result h)) l;
+      numbered = λ result h. subst (OneOf table) (sym (status-is n result h)) l;
     }
 
-pub sample-parameter-demand-1 : (a b : Float) (n : ℕ) → Demand1 (sampleParameterOf a b n) 16
-sample-parameter-demand-1 a b n = demand-1 (sampleParameterOf a b n) 16 (sample-parameter-refused a b n) (sample-parameter-status a b n)
+pub sample-parameter-demand-1 : (a b : Float) (n : ℕ) → Demand1 (sampleParameterOf a b n) (0 ∷ 16 ∷ [])
+sample-parameter-demand-1 a b n = demand-1 (sampleParameterOf a b n) (0 ∷ 16 ∷ []) (sample-parameter-refused a b n) (sample-parameter-status a b n)
 
-pub direction-demand-1 : (points : List Float) → Demand1 (directionOf points) 16
-direction-demand-1 points = demand-1 (directionOf points) 16 (direction-refused points) (direction-status points)
+pub direction-demand-1 : (points : List Float) → Demand1 (directionOf points) (0 ∷ 16 ∷ [])
+direction-demand-1 points = demand-1 (directionOf points) (0 ∷ 16 ∷ []) (direction-refused points) (direction-status points)
 
-pub triangle-demand-1 : (centre : List Float) (radius : Float) (sense : ℕ) (sides : List Float) → Demand1 (triangleListsOf centre radius sense sides) 19
-triangle-demand-1 centre radius sense sides = demand-1 (triangleListsOf centre radius sense sides) 19 (triangle-lists-refused centre radius sense sides) (triangle-lists-status centre radius sense sides)
+pub triangle-demand-1 : (centre : List Float) (radius : Float) (sense : ℕ) (sides : List Float) → Demand1 (triangleListsOf centre radius sense sides) statuses
+triangle-demand-1 centre radius sense sides = demand-1 (triangleListsOf centre radius sense sides) statuses (triangle-lists-refused centre radius sense sides) (triangle-lists-status centre radius sense sides)
 
-pub point-on-demand-1 : (uAxis normal corners : List Float) → Demand1 (pointOnOf uAxis normal corners) 21
-point-on-demand-1 uAxis normal corners = demand-1 (pointOnOf uAxis normal corners) 21 (point-on-refused uAxis normal corners) (point-on-status uAxis normal corners)
+pub point-on-demand-1 : (uAxis normal corners : List Float) → Demand1 (pointOnOf uAxis normal corners) (0 ∷ 16 ∷ 20 ∷ 21 ∷ [])
+point-on-demand-1 uAxis normal corners = demand-1 (pointOnOf uAxis normal corners) (0 ∷ 16 ∷ 20 ∷ 21 ∷ []) (point-on-refused uAxis normal corners) (point-on-status uAxis normal corners)
 
-pub cylinder-point-demand-1 : (heights angles : List Float) → Demand1 (cylinderPointOf heights angles) 23
-cylinder-point-demand-1 heights angles = demand-1 (cylinderPointOf heights angles) 23 (cylinder-refused heights angles) (cylinder-status heights angles)
+pub cylinder-point-demand-1 : (heights angles : List Float) → Demand1 (cylinderPointOf heights angles) (0 ∷ 16 ∷ 22 ∷ 23 ∷ [])
+cylinder-point-demand-1 heights angles = demand-1 (cylinderPointOf heights angles) (0 ∷ 16 ∷ 22 ∷ 23 ∷ []) (cylinder-refused heights angles) (cylinder-status heights angles)
 
-pub placed-demand-1 : (transform point : List Float) → Demand1 (placedOf transform point) 24
-placed-demand-1 transform point = demand-1 (placedOf transform point) 24 (placed-refused transform point) (placed-status transform point)
+pub placed-demand-1 : (transform point : List Float) → Demand1 (placedOf transform point) (0 ∷ 16 ∷ 24 ∷ [])
+placed-demand-1 transform point = demand-1 (placedOf transform point) (0 ∷ 16 ∷ 24 ∷ []) (placed-refused transform point) (placed-status transform point)

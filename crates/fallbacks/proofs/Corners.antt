@@ -126,13 +126,13 @@ point-on-answered uAxis normal corners vertices shape eu en ev h =
 -- ---- as an outcome
 
 module _ (serves : Corner → Bool) where
-  serving-status : (cs : List Corner) → firstServing serves cs .status ≤ 21
+  serving-status : (P : ℕ → Type 0) → P 0 → P 21 → (cs : List Corner) → P (firstServing serves cs .status)
   unfolding firstServing
-  serving-status [] = omega arith
-  serving-status (c ∷ cs) = by (serves c) (serving-status cs)
+  serving-status P found none [] = none
+  serving-status P found none (c ∷ cs) = by (serves c) (serving-status P found none cs)
     where
-      by : (b : Bool) → firstServing serves cs .status ≤ 21 → cond b (answeredAt (centreOf c)) (firstServing serves cs) .status ≤ 21
-      by true h = omega arith
+      by : (b : Bool) → P (firstServing serves cs .status) → P (cond b (answeredAt (centreOf c)) (firstServing serves cs) .status)
+      by true h = found
       by false h = h
 
   serving-zeros : (cs : List Corner) → (firstServing serves cs .status ≡ 0 → ⊥) → firstServing serves cs ≡ refused (firstServing serves cs .status)
@@ -148,9 +148,10 @@ module _ (serves : Corner → Bool) where
       by false later h = later h
 
 module _ (u v : Place) (places : List Place) where
-  pub among-status : pointAmong u v places .status ≤ 21
+  -- its status is 0 or 21
+  pub among-status : (P : ℕ → Type 0) → P 0 → P 21 → P (pointAmong u v places .status)
   unfolding pointAmong
-  among-status = serving-status (servesOf u v (map (flattened u v) places)) (cornersOf places)
+  among-status P found none = serving-status (servesOf u v (map (flattened u v) places)) P found none (cornersOf places)
 
   pub among-zeros : (pointAmong u v places .status ≡ 0 → ⊥) → pointAmong u v places ≡ refused (pointAmong u v places .status)
   unfolding pointAmong

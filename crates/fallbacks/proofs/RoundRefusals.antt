@@ -1,4 +1,5 @@
--- The round fallback's refusals: 16 and 22 in their order, then 23. A refusal's other numbers are 0, and no number is above 23.
+-- The round fallback's refusals: 16 and 22 in their order, then 23. A refusal's other numbers are 0, and its number is one of these.
+use mathlib.Core.Logic.{inl, inr}
 use mathlib.Core.Path.{_≡_, refl, sym, _∙_}
 use mathlib.Core.Bool.{true, false, _||_}
 use mathlib.Core.List.{List, [], _∷_}
@@ -10,9 +11,9 @@ use lib.Ieee.{Float, binary64, sub, le}
 use lib.ListN.{length}
 use Rattle.leaves.specs.Constants.{zero, micro}
 use Rattle.sheet.specs.Checks.{check, first}
-use Rattle.sheet.specs.Outcome.{refused, settled}
-use Rattle.sheet.proofs.Checked.{neither, first-most}
-use Rattle.sheet.proofs.Settled.{settled-here, settled-later, settled-empty, settled-zeros, settled-most}
+use Rattle.sheet.specs.Outcome.{refused, settled, OneOf}
+use Rattle.sheet.proofs.Checked.{neither, first-holds}
+use Rattle.sheet.proofs.Settled.{settled-here, settled-later, settled-empty, settled-zeros, settled-holds}
 use Rattle.answers.specs.Answers.{valued, middlePaper}
 use Rattle.answers.specs.declared.outcomes.MiddleAnswer.the-variants.{Refused}
 use Rattle.answers.proofs.Papers.{paper-no-middle}
@@ -57,14 +58,10 @@ module _ (heights angles : List Float) where
   unfolding cylinderPointOf
   cylinder-refused = settled-zeros (first (check 16 (roundWrong heights angles) ∷ check 22 (heightsWrong heights angles) ∷ [])) (middleAmong heights (cornerAngles angles)) middle-told
 
-  middle-status : middleAmong heights (cornerAngles angles) .status ≤ 23
-  unfolding middleAmong
-  middle-status =
-      settled-most 23 (first (check 23 (unclear (cornerAngles angles)) ∷ [])) (valued (middleAngle (cornerAngles angles)) (middleHeight heights) zero)
-      (first-most 23 (check 23 (unclear (cornerAngles angles)) ∷ []) (omega arith, tt)) (omega arith)
-
-  pub cylinder-status : cylinderPointOf heights angles .status ≤ 23
-  unfolding cylinderPointOf
+  -- a number of the table
+  pub cylinder-status : OneOf (0 ∷ 16 ∷ 22 ∷ 23 ∷ []) (cylinderPointOf heights angles .status)
+  unfolding cylinderPointOf middleAmong
   cylinder-status =
-      settled-most 23 (first (check 16 (roundWrong heights angles) ∷ check 22 (heightsWrong heights angles) ∷ [])) (middleAmong heights (cornerAngles angles))
-      (first-most 23 (check 16 (roundWrong heights angles) ∷ check 22 (heightsWrong heights angles) ∷ []) (omega arith, (omega arith, tt))) middle-status
+      let P : ℕ → Type 0 = OneOf (0 ∷ 16 ∷ 22 ∷ 23 ∷ []) in
+      let middle = settled-holds P _ (valued (middleAngle (cornerAngles angles)) (middleHeight heights) zero) (first-holds P (inl refl) _ (inr (inr (inr (inl refl))), tt)) (inl refl) in
+      settled-holds P _ (middleAmong heights (cornerAngles angles)) (first-holds P (inl refl) _ (inr (inl refl), (inr (inr (inl refl)), tt))) middle

@@ -74,32 +74,30 @@ fn is_regular(period: f64, a_u: f64, b_u: f64) -> bool
     false
 }
 
-// Whether the copy at column i is the one at column m too.
-fn is_served(period: f64, i: u32, m: u32, a_u: f64, b_u: f64) -> bool
-    ensures { λ r. ⌜ r ≡ sameEnds (endsAt period (partOf i) «a_u» «b_u») (endsAt period (partOf m) «a_u» «b_u») ⌝ }
+// Whether a copy with these ends is the one at column m.
+fn is_served(period: f64, ends: CopyEnds, m: u32, a_u: f64, b_u: f64) -> bool
+    ensures { λ r. ⌜ r ≡ sameEnds ends (endsAt period (partOf m) «a_u» «b_u») ⌝ }
 {
-    are_same(
-        ends_at(period, part(i), a_u, b_u),
-        ends_at(period, part(m), a_u, b_u),
-    )
+    are_same(ends, ends_at(period, part(m), a_u, b_u))
 }
 
-// A column from i on up to which the copy at column i serves: the last one, or one that is found by halves.
-fn served(period: f64, i: u32, a_u: f64, b_u: f64) -> u32
-    requires { ⌜ (1 ≤ i) × (i ≤ 31) ⌝ }
+// A column from i on up to which the copy at column i, which has these ends, serves: the last one, or one
+// that is found by halves.
+fn served(period: f64, i: u32, ends: CopyEnds, a_u: f64, b_u: f64) -> u32
+    requires { ⌜ (1 ≤ i) × (i ≤ 31) × (ends ≡ endsAt period (partOf i) «a_u» «b_u») ⌝ }
     ensures { λ r. ⌜ (i ≤ r) × Serves period i r «a_u» «b_u» ⌝ }
 {
     if !is_regular(period, a_u, b_u) {
         return i;
     }
-    if is_served(period, i, 31, a_u, b_u) {
+    if is_served(period, ends, 31, a_u, b_u) {
         return 31;
     }
     let mut step: u32 = 16;
     while 0 < step {
         let m = i + step;
         if m < 31 {
-            if is_served(period, i, m, a_u, b_u) {
+            if is_served(period, ends, m, a_u, b_u) {
                 return m;
             }
         }
@@ -128,7 +126,7 @@ fn renew_one(
     }
     let ends = ends_at(period, part(i), a_u, b_u);
     put(ends.a, a_v, ends.b, b_v, copy);
-    served(period, i, a_u, b_u)
+    served(period, i, ends, a_u, b_u)
 }
 
 // The copies of all segments at column i, over those of the column before.

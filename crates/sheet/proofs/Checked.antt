@@ -84,14 +84,18 @@ pub first-later : (c : Check) (cs : List Check) → c .fails ≡ false → first
 unfolding first
 first-later c cs e = rw e
 
-pub first-most : (n : ℕ) (cs : List Check) → Within n cs → first cs ≤ n
+-- what holds of 0 and of every row's number holds of the first that fails
+pub first-holds : (P : ℕ → Type 0) → P 0 → (cs : List Check) → All (λ (c : Check). P (c .number)) cs → P (first cs)
 unfolding first
-first-most n [] h = omega arith
-first-most n (c ∷ cs) h = by (c .fails) (first-most n cs (h .1))
+first-holds P none [] h = none
+first-holds P none (c ∷ cs) h = by (c .fails) (first-holds P none cs (h .1))
   where
-    by : (b : Bool) → first cs ≤ n → cond b (c .number) (first cs) ≤ n
+    by : (b : Bool) → P (first cs) → P (cond b (c .number) (first cs))
     by true k = h .0
     by false k = k
+
+pub first-most : (n : ℕ) (cs : List Check) → Within n cs → first cs ≤ n
+first-most n cs h = first-holds (λ (k : ℕ). k ≤ n) (omega arith) cs h
 
 -- the checks of xs come first
 after-none : (xs ys : List Check) → NoneFails xs → first (xs ++ ys) ≡ first ys

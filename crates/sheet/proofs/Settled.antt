@@ -2,7 +2,7 @@
 use mathlib.Core.Path.{_≡_, refl, sym, ap, _∙_}
 use mathlib.Core.Bool.{Bool, true, false, cond}
 use mathlib.Core.List.{List, [], _∷_}
-use Prim.Native.Nat.{ℕ, _≤_, _<_}
+use Prim.Native.Nat.{ℕ, _<_}
 use native.Mathlib.Omega.{arith}
 use lib.Dec.{eqb}
 use borrow.Author.Tests.{eq-eqb, eqb-true, ne-eqb}
@@ -35,11 +35,12 @@ settled-zeros refusal numbers zeros = by (eqb refusal 0)
     by true h = zeros h
     by false h = refl
 
-pub settled-most : (n refusal : ℕ) (numbers : Numbers) → refusal ≤ n → numbers .status ≤ n → settled refusal numbers .status ≤ n
+-- what holds of the first check that fails, and of the status behind, holds of the status settled
+pub settled-holds : (P : ℕ → Type 0) (refusal : ℕ) (numbers : Numbers) → P refusal → P (numbers .status) → P (settled refusal numbers .status)
 unfolding settled
-settled-most n refusal numbers h k = by (eqb refusal 0)
+settled-holds P refusal numbers h k = by (eqb refusal 0)
   where
-    by : (b : Bool) → cond b numbers (refused refusal) .status ≤ n
+    by : (b : Bool) → P (cond b numbers (refused refusal) .status)
     by true = k
     by false = h
 

@@ -1,5 +1,8 @@
 -- Document 01, "With a refusal all other result numbers are 0": the paper's six numbers of a call's outcome, the status and the five that stand beside it.
 use mathlib.Core.Bool.{cond}
+use mathlib.Core.List.{List, [], _∷_}
+use mathlib.Core.Logic.{_⊎_}
+use mathlib.Core.Path.{_≡_}
 use Prim.Native.Nat.{ℕ}
 use lib.Dec.{eqb}
 use lib.Ieee.{Float}
@@ -19,3 +22,8 @@ refused n = record { status = n; x = zero; y = zero; z = zero; clearance = zero;
 -- the answer's numbers where no check fails, else those of the first that does
 unfoldable pub settled : ℕ → Numbers → Numbers
 settled refusal numbers = cond (eqb refusal 0) numbers (refused refusal)
+
+-- a status is one of these
+abbrev pub OneOf : List ℕ → ℕ → Type 0
+OneOf [] n = ⊥
+OneOf (m ∷ ms) n = (n ≡ m) ⊎ OneOf ms n

@@ -1,5 +1,5 @@
--- `grid::copies::is_served` compares the copies at two columns.
-use mathlib.Core.Path.{ap₂, _∙_}
+-- `grid::copies::is_served` compares the ends of a copy with those at another column.
+use mathlib.Core.Path.{ap, _∙_}
 use Rattle.grid.specs.Copies.{sameEnds}
 use Rattle.grid.proofs.Serving.{ends-are}
 use borrow.Author.Needs.{needs}
@@ -12,30 +12,13 @@ part-requires c κs = search needs
 ends-at-requires : tie.Need-ends-at-requires
 ends-at-requires c κs = search needs
 
-part-requires-2 : tie.Need-part-requires-2
-part-requires-2 c κs = search needs
-
-ends-at-requires-2 : tie.Need-ends-at-requires-2
-ends-at-requires-2 c κs = search needs
-
 are-same-requires : tie.Need-are-same-requires
 are-same-requires c κs = search needs
 
 returns : tie.Need-returns
 returns c =
-    let x = c .before .before .before .before .before .args in
-    c .are-same .ensures
-    ∙ ap₂ sameEnds
-    (ends-are (x .period) (x .a-u) (x .b-u) (c .before .before .before .before .part .ensures) (c .before .before .before .ends-at .result) (c .before .before .before .ends-at .ensures))
-    (ends-are (x .period) (x .a-u) (x .b-u) (c .before .before .part2 .ensures) (c .before .ends-at2 .result) (c .before .ends-at2 .ensures))
+    let x = c .before .before .before .args in
+    c .are-same .ensures ∙ ap (sameEnds (x .ends)) (ends-are (x .period) (x .a-u) (x .b-u) (c .before .before .part .ensures) (c .before .ends-at .result) (c .before .ends-at .ensures))
 
 pub is-served-spec : {M : Type 1} → statement M
-is-served-spec =
-    tie.close
-    (tie.spec
-    part-requires
-    ends-at-requires
-    part-requires-2
-    ends-at-requires-2
-    are-same-requires
-    returns)
+is-served-spec = tie.close (tie.spec part-requires ends-at-requires are-same-requires returns)

@@ -20,7 +20,10 @@ put-requires : tie.Need-put-requires
 put-requires c κs = search needs
 
 served-requires : tie.Need-served-requires
-served-requires c κs = search needs
+served-requires c κs =
+    let x = c .before .before .before .before .before .before .before .before in
+    let e = c .before .before .before .before .ends-at in
+    (x .pre .0, x .pre .1, ends-are (x .args .period) (x .args .a-u) (x .args .b-u) (c .before .before .before .before .before .part .ensures) (e .result) (e .ensures))
 
 same-length : tie.Need-same-length
 same-length c = search needs

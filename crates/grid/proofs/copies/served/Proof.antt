@@ -1,18 +1,21 @@
 -- `grid::copies::served` answers a column up to which the copy at column i serves: i itself, or one where it was found to be the same.
-use mathlib.Core.Path.{_≡_, sym, _∙_}
+use mathlib.Core.Path.{_≡_, sym, ap, _∙_}
 use mathlib.Core.Bool.{Bool, true, false, not, true≢false}
 use Prim.Native.Nat.{_+_, _≤_}
 use native.Mathlib.Omega.{arith}
+use Rattle.rings.specs.Grid.{part}
+use Rattle.grid.specs.Copies.{endsAt, sameEnds}
+use Rattle.grid.specs.declared.copies.CopyEnds.{CopyEnds}
 use Rattle.grid.proofs.Serving.{served-between, served-here}
 use Rattle.grid.proofs.copies.served.Statement.{statement}
 use Rattle.grid.proofs.copies.served.Tie as tie
 
 abbrev Inv-loop : tie.InvT-loop
-Inv-loop period i a-u b-u step₀ step =
+Inv-loop period i ends a-u b-u step₀ step =
     step ≤ 16
 
 abbrev μ-loop : tie.MeasureT-loop
-μ-loop period i a-u b-u step₀ step = step
+μ-loop period i ends a-u b-u step₀ step = step
 
 -- the test says that the turns go up
 so : (t r : Bool) → t ≡ r → not t ≡ false → r ≡ true
@@ -30,8 +33,9 @@ is-served-requires c κs = tt
 
 returns-2 : tie.Need-returns-2 Inv-loop μ-loop
 returns-2 c =
-    let x = c .before .before .before .before .args in
-    (omega arith, served-between (x .period) (x .a-u) (x .b-u) (so _ _ (c .before .before .before .is-regular .ensures) (c .before .before .if1 .left)) (x .i) 31 (sym (c .before .is-served .ensures) ∙ c .if2 .taken))
+    let x = c .before .before .before .before in
+    let y = x .args in
+    (omega arith, served-between (y .period) (y .a-u) (y .b-u) (so _ _ (c .before .before .before .is-regular .ensures) (c .before .before .if1 .left)) (y .i) 31 (ap (λ (e : CopyEnds). sameEnds e (endsAt (y .period) (part 31) (y .a-u) (y .b-u))) (sym (x .pre .2)) ∙ sym (c .before .is-served .ensures) ∙ c .if2 .taken))
 
 loop-holds : tie.Need-loop-holds Inv-loop μ-loop
 loop-holds c = omega arith
@@ -44,9 +48,10 @@ is-served-requires-2 c κs = tt
 
 returns-3 : tie.Need-returns-3 Inv-loop μ-loop
 returns-3 c =
-    let x = c .before .before .before .before .before .before .before .before .before .args in
-    let r = c .before .before .before .before .before .before .before .before in
-    (omega arith, served-between (x .period) (x .a-u) (x .b-u) (so _ _ (r .is-regular .ensures) (c .before .before .before .before .before .before .before .if1 .left)) (x .i) (x .i + c .before .before .before .before .loop .step) (sym (c .before .is-served2 .ensures) ∙ c .if4 .taken))
+    let x = c .before .before .before .before .before .before .before .before .before in
+    let y = x .args in
+    let m = y .i + c .before .before .before .before .loop .step in
+    (omega arith, served-between (y .period) (y .a-u) (y .b-u) (so _ _ (c .before .before .before .before .before .before .before .before .is-regular .ensures) (c .before .before .before .before .before .before .before .if1 .left)) (y .i) m (ap (λ (e : CopyEnds). sameEnds e (endsAt (y .period) (part m) (y .a-u) (y .b-u))) (sym (x .pre .2)) ∙ sym (c .before .is-served2 .ensures) ∙ c .if4 .taken))
 
 loop-less : tie.Need-loop-less Inv-loop μ-loop
 loop-less c = omega arith
