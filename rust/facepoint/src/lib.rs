@@ -78,6 +78,11 @@ pub use picker::{chart, image_pick, plane_pick, Chart, Phase, Pick};
 pub use refusal::Refusal;
 pub use sheet::{BuildError, Coedge, Face, Kind, Plane, Ring, Sense, Sheet, SAMPLES};
 
+/// The README's Rust, compiled and run with the other examples.
+#[cfg(doctest)]
+#[doc = include_str!("../../../README.md")]
+struct Readme;
+
 /// A point of a face's chart: u, v.
 pub type Uv = [f64; 2];
 
