@@ -3,13 +3,14 @@ use mathlib.Core.Bool.{Bool, not, _&&_}
 use mathlib.Core.List.{List}
 use mathlib.Core.Path.{_≡_}
 use Prim.Native.Nat.{ℕ, _/_, _≤_, _<_}
-use lib.Ieee.{Float, eq, lt}
+use lib.Ieee.{Float, eq}
 use lib.ListN.{length, getD}
 use Rattle.leaves.specs.Constants.{zero, greatestFinite}
 use Rattle.sheet.specs.Checks.{beyond}
 use Rattle.sheet.specs.Content.{point}
 use Rattle.rings.specs.Coverage.{middle}
 use Rattle.rings.specs.Grid.{part}
+use Rattle.rings.specs.Lines.{keepsOrder}
 use Rattle.rings.specs.Segments.{Segment, segment}
 use Rattle.grid.specs.Segments.{segmentAt, segmentsIn, shiftedTo}
 use Rattle.grid.specs.declared.copies.CopyEnds.{CopyEnds}
@@ -23,8 +24,8 @@ unfolding eq
 sameEnds x y = eq (x .a) (y .a) && (eq (x .b) (y .b) && (not (eq (x .a) zero) && not (eq (x .b) zero)))
 
 unfoldable pub regular : Float → Float → Float → Bool
-unfolding lt beyond
-regular period a b = lt zero period && (not (beyond greatestFinite period) && (not (beyond greatestFinite a) && (not (beyond greatestFinite b) && not (beyond greatestFinite (middle a b)))))
+unfolding keepsOrder beyond
+regular period a b = keepsOrder period (middle a b) && (not (beyond greatestFinite a) && not (beyond greatestFinite b))
 
 -- c is the copy of s at the columns from i up to t
 abbrev pub Serving : Float → ℕ → ℕ → Segment → Segment → Type 0

@@ -4,15 +4,11 @@
 // copy or two.
 use crate::segments::NUMBERS;
 use crate::segments::put;
-use leaves::constants::GREATEST_FINITE;
 use rings::part;
 ghost use mathlib.Core.Path.{_≡_};
-ghost use mathlib.Core.Bool.{not};
 ghost use mathlib.Core.List.{map};
 ghost use Prim.Native.Nat.{_+_, _/_, _≤_};
 ghost use lib.ListN.{length};
-ghost use Rattle.leaves.specs.Constants.{greatestFinite};
-ghost use Rattle.sheet.specs.Checks.{beyond};
 ghost use Rattle.sheet.specs.Content.{point};
 ghost use Rattle.rings.specs.Grid.{part as partOf};
 ghost use Rattle.rings.specs.Segments.{segment};
@@ -51,24 +47,13 @@ fn are_same(x: CopyEnds, y: CopyEnds) -> bool
     false
 }
 
-// Whether x is finite, and no NaN.
-fn is_number(x: f64) -> bool
-    ensures { λ r. ⌜ r ≡ not (beyond greatestFinite x) ⌝ }
-{
-    !sheet::is_beyond(GREATEST_FINITE, x)
-}
-
-// Whether the turns go up with the column: the period is a number above 0, and the rest are numbers.
+// Whether both ends go up with the column: the turns do, and the ends are numbers.
 fn is_regular(period: f64, a_u: f64, b_u: f64) -> bool
     ensures { λ r. ⌜ r ≡ regular period «a_u» «b_u» ⌝ }
 {
-    if 0.0 < period {
-        if is_number(period) {
-            if is_number(a_u) {
-                if is_number(b_u) {
-                    return is_number((a_u + b_u) / 2.0);
-                }
-            }
+    if rings::keeps_order(period, (a_u + b_u) / 2.0) {
+        if rings::is_number(a_u) {
+            return rings::is_number(b_u);
         }
     }
     false

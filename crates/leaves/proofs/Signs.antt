@@ -1,11 +1,12 @@
 -- Which operations give no -0 and no negative value. A sum whose first part is not -0 is not -0: the exact sum of two values that a format holds is a whole number of the
 -- format's smallest value, so where it is not 0 it does not round to 0, and an exact 0 is -0 only where both parts are negative. A square, and a sum of two values that are not negative, has no sign.
--- Of the other sign a fraction rounds to the same magnitude, and 0 to the zero of its sign.
+-- Of the other sign a fraction rounds to the same magnitude, and 0 to the zero of its sign. A zero of either sign adds the same to a value without a sign.
 use mathlib.Core.Path.{_≡_, refl, sym, ap, ap₂, _∙_, subst}
 use mathlib.Core.Bool.{Bool, true, false, not, _&&_, cond, true≢false}
 use Prim.Native.Nat.{ℕ, zero, suc, _+_, _-_, _*_, _/_, _%_, _^_, _≤_, _<_, compare}
-use native.Mathlib.Nat.{add-mul, div-div-eq-div-mul, le-div-iff-mul-le, le-of-eq, le-trans, lt-irrefl, lt-of-lt-of-le, lt-of-mul-lt-mul-right, lt-of-not-le, mul-comm, mul-le-mul-right, mul-lt-mul-of-pos-right, mul-pos, mul-sub, one-mul, suc-mul, zero-mul}
+use native.Mathlib.Nat.{add-mul, add-zero, div-div-eq-div-mul, le-div-iff-mul-le, le-of-eq, le-trans, lt-irrefl, lt-of-lt-of-le, lt-of-mul-lt-mul-right, lt-of-not-le, mul-comm, mul-le-mul-right, mul-lt-mul-of-pos-right, mul-pos, mul-sub, one-mul, suc-mul, zero-mul}
 use native.Mathlib.Omega.{arith}
+use borrow.Author.Tests.{le-ltb}
 use lib.IntN.{ℤ, pos}
 use lib.Dec.{T, ltb, ltb→lt}
 use lib.Pow.{pow-mono, pow-pos}
@@ -179,6 +180,24 @@ add-clear-second f x y h k z = sum-of-clear f x y h k (not-second (minusZero x) 
 pub sub-clear-second : (f : Format) (x y : Float) → T (fits f x) → T (fits f y) → T (not (minusZero (neg y))) → T (not (minusZero (sub f x y)))
 unfolding sub
 sub-clear-second f x y h k z = add-clear-second f x (neg y) h (neg-fits f y k) z
+
+-- ---- a zero added to what has no sign: the zero's own sign does not show
+
+sum-none : (f : Format) (a : ℕ) (s : Bool) (c : ℕ) → sum f false a s 0 c ≡ round f false a c
+unfolding sum
+sum-none f a false c = ap (λ (n : ℕ). round f false n c) (add-zero a)
+sum-none f a true c = let e : a - 0 ≡ a = omega arith in rw (le-ltb a 0 (omega arith), e)
+
+pub add-any-zero : (f : Format) (x : Float) → sign x ≡ false → (s t : Bool) → add f x (fin s 0 (pos 0)) ≡ add f x (fin t 0 (pos 0))
+unfolding add
+add-any-zero f nan h s t = refl
+add-any-zero f (inf u) h s t = refl
+add-any-zero f (fin true m e) h s t = absurd (true≢false h)
+add-any-zero f (fin false m e) h s t =
+    let a = m * up e * 1 in
+    let c = down e * 1 in
+    let none : 0 * down e ≡ 0 = zero-mul (down e) in
+    ap (λ (b : ℕ). sum f false a s b c) none ∙ sum-none f a s c ∙ sym (ap (λ (b : ℕ). sum f false a t b c) none ∙ sum-none f a t c)
 
 -- ---- no sign
 

@@ -28,3 +28,5 @@ pub mod Ascending
 pub mod Cells
 pub mod Flips
 pub mod Columns
+-- turns that serve between two columns
+pub mod Serving

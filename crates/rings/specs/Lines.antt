@@ -1,13 +1,16 @@
--- What the code keeps while it goes along the grid's lines: how many lines are below a number, and a cell for each grid point in a list, line after line.
+-- What the code keeps while it goes along the grid's lines: how many lines are below a number, the columns that have one turn, and a cell for each grid point in a list, line after line.
 use mathlib.Core.Path.{_≡_}
-use mathlib.Core.Bool.{false, xor, _&&_}
+use mathlib.Core.Bool.{Bool, false, not, xor, _&&_}
 use mathlib.Core.List.{List}
 use Prim.Native.Nat.{ℕ, _+_, _*_, _/_, _%_, _≤_, _<_}
 use lib.Dec.{leb, ltb}
-use lib.Ieee.{Float, lt}
+use lib.Ieee.{Float, binary64, add, sub, lt}
 use lib.ListN.{length, getD}
+use Rattle.leaves.specs.Constants.{zero, greatestFinite}
+use Rattle.sheet.specs.Checks.{beyond}
 use Rattle.sheet.specs.Content.{Point}
 use Rattle.rings.specs.Grid.{part, gridPoint}
+use Rattle.rings.specs.Turns.{turns}
 
 -- ---- the lines 1/32 to 31/32 and a number
 
@@ -26,6 +29,21 @@ pub record Parted (a b : Float) (low high : ℕ) : Type 0 where
   pub order : low ≤ high
   pub most : high ≤ 31
   pub is : (m : ℕ) → m < 31 → xor (lt (part (m + 1)) a) (lt (part (m + 1)) b) ≡ leb low m && ltb m high
+
+-- ---- the turns of a column, for a segment with the middle mid
+
+-- the period is a number above 0 and mid is a number: the turns go with the order of the columns
+unfoldable pub keepsOrder : Float → Float → Bool
+unfolding lt beyond
+keepsOrder period mid = lt zero period && (not (beyond greatestFinite period) && not (beyond greatestFinite mid))
+
+-- the turns at column i
+abbrev pub turnAt : Float → Float → ℕ → Float
+turnAt period mid i = turns (sub binary64 mid (part i)) period
+
+-- at the columns from i up to t a turn by so much gives the copy of u
+abbrev pub Turning : Float → Float → ℕ → ℕ → Float → Type 0
+Turning period mid i t by = (m : ℕ) → i ≤ m → m ≤ t → add binary64 (part m) (turnAt period mid m) ≡ add binary64 (part m) by
 
 -- ---- a cell for each grid point
 

@@ -4,6 +4,7 @@
 
 mod bounds;
 mod clearance;
+mod column_turns;
 mod coverage;
 mod grid;
 mod joins;
@@ -23,4 +24,6 @@ pub use lines::crossing_grid;
 pub use points::normalise;
 pub use points::read;
 pub use points::unroll;
+pub use turns::is_number;
+pub use turns::keeps_order;
 pub use turns::turns as whole_turns;

@@ -1,5 +1,7 @@
 // Rule 7 on one ring, over the whole grid: what an edge does to a row, or a segment to a column, is
 // worked out once for the line's 31 points.
+use crate::column_turns::ColumnTurn;
+use crate::column_turns::turned;
 use crate::coverage::just_one_above;
 use crate::grid::lines_below;
 use crate::grid::part;
@@ -176,10 +178,12 @@ fn add_segment(period: f64, a_u: f64, a_v: f64, b_u: f64, b_v: f64, cells: &mut 
     ensures { λ _. ⌜ Holds (pos 0) 961 (now (cells .exit)) (λ (k : ℕ). getD (now (cells .entry)) k (pos 0) +ℤ stepOf period (byColumns k) (segment (point «a_u» «a_v») (point «b_u» «b_v»))) ⌝ }
 {
     let far = b_u + turns(a_u - b_u, period);
+    let mid = (a_u + far) / 2.0;
+    let mut turn = ColumnTurn { by: 0.0, until: 0 };
     let mut i: u32 = 0;
     while i < 31 {
-        let u = part(i + 1);
-        let w = u + turns((a_u + far) / 2.0 - u, period);
+        turn = turned(period, mid, i + 1, turn);
+        let w = part(i + 1) + turn.by;
         let from = 31 * (i as usize);
         let to = from + 31;
         add_column(a_u, a_v, far, b_v, w, &mut cells[from..to]);

@@ -1,9 +1,9 @@
--- `grid::copies::is_number` says that the number is not beyond the greatest finite one.
+-- `rings::turns::is_number` says that the number is not beyond the greatest finite one.
 use mathlib.Core.Path.{ap}
 use mathlib.Core.Bool.{not}
 use borrow.Author.Needs.{needs}
-use Rattle.grid.proofs.copies.is_number.Statement.{statement}
-use Rattle.grid.proofs.copies.is_number.Tie as tie
+use Rattle.rings.proofs.turns.is_number.Statement.{statement}
+use Rattle.rings.proofs.turns.is_number.Tie as tie
 
 is-beyond-requires : tie.Need-is-beyond-requires
 is-beyond-requires c κs = search needs
