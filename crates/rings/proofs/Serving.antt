@@ -20,7 +20,6 @@ use Rattle.leaves.proofs.Values.{sign}
 use Rattle.sheet.specs.Checks.{beyond}
 use Rattle.rings.specs.Grid.{thirtyTwo, part}
 use Rattle.rings.specs.Lines.{keepsOrder, turnAt, Turning}
-use Rattle.rings.specs.Turns.{turns}
 use Rattle.rings.proofs.WholeTurns.{turns-fits, turns-mono}
 
 -- ---- the columns

@@ -1,12 +1,11 @@
 // The turns of rule 7 along the grid's columns. They go down as the columns go up, so what they give is the
 // same between two columns where they are equal. They are worked out once and serve up to a column that was
-// asked; in all a segment has one turn or two.
-use crate::grid::part;
+// asked; they change at one column or two.
+use crate::grid_lines::part;
 use crate::turns::keeps_order;
 use crate::turns::turns;
 ghost use mathlib.Core.Path.{_≡_};
 ghost use Prim.Native.Nat.{_≤_};
-ghost use lib.Ieee.{eq};
 ghost use Rattle.rings.specs.Lines.{turnAt, Turning};
 
 // Turns, and a column up to which they serve.

@@ -3,8 +3,8 @@
 use crate::column_turns::ColumnTurn;
 use crate::column_turns::turned;
 use crate::coverage::just_one_above;
-use crate::grid::lines_below;
-use crate::grid::part;
+use crate::grid_lines::lines_below;
+use crate::grid_lines::part;
 use crate::turns::turns;
 ghost use mathlib.Core.Path.{_≡_};
 ghost use mathlib.Core.Bool.{false, cond, xor};

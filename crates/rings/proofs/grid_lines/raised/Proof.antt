@@ -1,10 +1,10 @@
--- `rings::grid::raised` gives a count after which no line is below x: it ends at the last line, or at a line that is not below x, and then none after it is, since the lines ascend. The invariant: the count is at most 31.
+-- `rings::grid_lines::raised` gives a count after which no line is below x: it ends at the last line, or at a line that is not below x, and then none after it is, since the lines ascend. The invariant: the count is at most 31.
 use Prim.Native.Nat.{_-_, _≤_}
 use native.Mathlib.Omega.{arith}
 use borrow.Author.Needs.{needs}
 use Rattle.rings.proofs.Ascending.{none-above, none-at-end}
-use Rattle.rings.proofs.grid.raised.Statement.{statement}
-use Rattle.rings.proofs.grid.raised.Tie as tie
+use Rattle.rings.proofs.grid_lines.raised.Statement.{statement}
+use Rattle.rings.proofs.grid_lines.raised.Tie as tie
 
 abbrev Inv-loop : tie.InvT-loop
 Inv-loop near x count₀ count = count ≤ 31

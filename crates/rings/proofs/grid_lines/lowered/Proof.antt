@@ -1,10 +1,10 @@
--- `rings::grid::lowered` gives the count of the lines below x. The invariant: no line after the count is below x. Where the count's last line is below x, so are all before it; where it is not, the count goes down by one.
+-- `rings::grid_lines::lowered` gives the count of the lines below x. The invariant: no line after the count is below x. Where the count's last line is below x, so are all before it; where it is not, the count goes down by one.
 use native.Mathlib.Omega.{arith}
 use borrow.Author.Needs.{needs}
 use Rattle.rings.specs.Lines.{NoneAfter}
 use Rattle.rings.proofs.Ascending.{none-lower, below-last, below-none}
-use Rattle.rings.proofs.grid.lowered.Statement.{statement}
-use Rattle.rings.proofs.grid.lowered.Tie as tie
+use Rattle.rings.proofs.grid_lines.lowered.Statement.{statement}
+use Rattle.rings.proofs.grid_lines.lowered.Tie as tie
 
 abbrev Inv-loop : tie.InvT-loop
 Inv-loop most x count₀ count = NoneAfter x count

@@ -1,9 +1,9 @@
--- `rings::grid::part` is `part` of the specs, operation by operation.
+-- `rings::grid_lines::part` is `part` of the specs, operation by operation.
 use mathlib.Core.Path.{refl}
 use Rattle.rings.specs.Grid.{part}
 use borrow.Author.Needs.{needs}
-use Rattle.rings.proofs.grid.part.Statement.{statement}
-use Rattle.rings.proofs.grid.part.Tie as tie
+use Rattle.rings.proofs.grid_lines.part.Statement.{statement}
+use Rattle.rings.proofs.grid_lines.part.Tie as tie
 
 int-to-float-result : tie.Need-int-to-float-result
 int-to-float-result c = search needs
