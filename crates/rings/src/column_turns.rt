@@ -1,6 +1,6 @@
 // The turns of rule 7 along the grid's columns. They go down as the columns go up, so what they give is the
 // same between two columns where they are equal. They are worked out once and serve up to a column that was
-// asked; they change at one column or two.
+// asked. Where the period is at least 1, as on every sheet, they change at one column at most.
 use crate::grid_lines::part;
 use crate::turns::keeps_order;
 use crate::turns::turns;
