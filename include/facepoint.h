@@ -3,10 +3,18 @@
  * C convention.
  *
  * The archive is target/staticlib/libcapi.a (`rt staticlib capi`), for x86-64
- * Linux; it calls the C library's fmod (-lm). It takes no memory from the heap,
- * keeps nothing between calls and may be called from several threads at once.
- * Every call ends, and answers for every input; what it answers is proved
- * (crates/capi).
+ * Linux; of the C library it calls fmod (-lm), memset and memcpy at most.
+ * It takes no memory from the heap, keeps nothing between calls and may be called
+ * from several threads at once. Every call ends, and answers for every input; what
+ * it answers is proved (crates/capi), if the host sees to two things that no call
+ * can test:
+ *
+ * - Stack. A call takes at most 256 KiB of it, whatever it is given. On a thread
+ *   that has less left the process dies.
+ * - C's default floating-point environment: rounding to nearest, and no flushing of
+ *   subnormals to zero. Under fesetround(FE_UPWARD) the sample panel has a count of
+ *   798 in place of 795. A program that gcc links with -ffast-math flushes from its
+ *   start, in every thread: a z of 5e-324 comes back as 0.
  *
  * A list goes as a pointer to its first element and the number of its elements.
  * A pointer may not be null, even where the number is 0. Lists of one call must

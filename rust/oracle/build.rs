@@ -103,7 +103,7 @@ fn main() {
     let out = PathBuf::from(env::var_os("OUT_DIR").expect("set by cargo"));
     println!("cargo:rerun-if-changed=build.rs");
     write_copies(&manifest.join("original"), &out);
-    find_archive(&manifest);
+    find_calls();
 }
 
 fn write_copies(original: &Path, out: &Path) {
@@ -218,7 +218,7 @@ fn replaced(text: &str, from: &str, to: &str, hits: usize) -> String {
 }
 
 /// The exported calls on a sheet.
-const CALLS: [&str; 3] = [
+const PICKER: [&str; 3] = [
     "facepoint_chart",
     "facepoint_image_pick",
     "facepoint_plane_pick",
@@ -233,34 +233,24 @@ const AFTER: [&str; 6] = [
     "facepoint_placed",
 ];
 
-/// Links the proved calls where their archive stands; all else builds without.
-fn find_archive(manifest: &Path) {
+/// Tells which calls there are: rust/calls links their archive where one stands and
+/// names it; all else builds without.
+fn find_calls() {
     println!("cargo:rustc-check-cfg=cfg(facepoint_archive)");
-    println!("cargo:rustc-check-cfg=cfg(facepoint_calls)");
+    println!("cargo:rustc-check-cfg=cfg(facepoint_picker)");
     println!("cargo:rustc-check-cfg=cfg(facepoint_after)");
-    println!("cargo:rerun-if-env-changed=FACEPOINT_ARCHIVE");
-    let archive = env::var_os("FACEPOINT_ARCHIVE").map_or_else(
-        || manifest.join("../../target/staticlib/libcapi.a"),
-        PathBuf::from,
-    );
-    // A path that is not there yet makes cargo look again at the next build.
-    println!("cargo:rerun-if-changed={}", archive.display());
-    if !archive.is_file() {
+    let Some(archive) = env::var_os("DEP_FACEPOINT_ARCHIVE").map(PathBuf::from) else {
         return;
-    }
-    let archive = archive.canonicalize().expect("the archive is a file");
-    let folder = archive.parent().expect("a file has a folder");
-    let name = archive.file_stem().and_then(|stem| stem.to_str());
-    let name = name.and_then(|stem| stem.strip_prefix("lib"));
+    };
+    println!("cargo:rerun-if-changed={}", archive.display());
     println!("cargo:rustc-cfg=facepoint_archive");
-    if has_names(&archive, &CALLS) {
-        println!("cargo:rustc-cfg=facepoint_calls");
+    println!("cargo:rustc-env=ARCHIVE={}", archive.display());
+    if has_names(&archive, &PICKER) {
+        println!("cargo:rustc-cfg=facepoint_picker");
     }
     if has_names(&archive, &AFTER) {
         println!("cargo:rustc-cfg=facepoint_after");
     }
-    println!("cargo:rustc-link-search=native={}", folder.display());
-    println!("cargo:rustc-link-lib=static={}", name.expect("libNAME.a"));
 }
 
 /// Whether the archive has all these functions; one that is missing would stop

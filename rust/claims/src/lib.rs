@@ -1,5 +1,5 @@
 //! Holds docs/CLAIMS.md against the client's papers and against the files it
-//! names.
+//! names; and names the declarations that nothing reaches ([`dead`]).
 //!
 //! Every sentence, bullet, rule and table row of the papers has a row that
 //! quotes it, word for word and in order. A row has three cells: the quote; the
@@ -7,18 +7,21 @@
 //! with; and their files, or `-`. With one file all names stand in it, else the
 //! i-th name in the i-th file.
 
+use std::env;
 use std::ffi::OsStr;
 use std::fmt;
 use std::fs;
-use std::path::Path;
+use std::path::{Path, PathBuf};
 
 mod declared;
 mod page;
 mod papers;
+mod reach;
 
 pub use declared::declares;
 pub use page::{names, rows, Row};
 pub use papers::pieces;
+pub use reach::{dead, reached};
 
 const CLAIMS: &str = "docs/CLAIMS.md";
 const PAPERS: [&str; 2] = ["docs/papers/demands.md", "docs/papers/01-scope.md"];
@@ -49,6 +52,17 @@ impl fmt::Display for Report {
         let failed = !self.errors.is_empty();
         writeln!(f, "claims: {}", if failed { "FAILED" } else { "ok" })
     }
+}
+
+/// The folder that the program is given, or the repository that this package is in.
+/// cargo tells the package's folder to a program that it runs; a path kept from
+/// the build would be wrong once the repository is moved.
+pub fn root() -> Result<PathBuf, String> {
+    let given = env::args_os().nth(1).map(PathBuf::from);
+    let above = |package| Path::new(&package).join("../..");
+    given
+        .or_else(|| env::var_os("CARGO_MANIFEST_DIR").map(above))
+        .ok_or_else(|| "no folder given, and not run by cargo".to_string())
 }
 
 /// Checks the repository in the folder `root`. An `Err` names what it could not

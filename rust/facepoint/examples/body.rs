@@ -6,6 +6,7 @@
 
 use std::error::Error;
 use std::f64::consts::{FRAC_PI_2, TAU};
+use std::io::{stdout, ErrorKind, Write};
 use std::thread::available_parallelism;
 
 use facepoint::{
@@ -141,12 +142,17 @@ fn main() -> Result<(), Box<dyn Error>> {
         .collect();
     let picks = pick_all(&faces, available_parallelism()?);
     for ((name, ..), pick) in model.iter().zip(picks) {
-        match pick {
+        let said = match pick {
             Ok(pick) => {
                 let [x, y, z] = placed(&transform, pick.point)?;
-                println!("{name}: {x:.6} {y:.6} {z:.6}, {:?}", pick.by);
+                format!("{x:.6} {y:.6} {z:.6}, {:?}", pick.by)
             }
-            Err(why) => println!("{name}: {why}"),
+            Err(why) => why.to_string(),
+        };
+        match writeln!(stdout(), "{name}: {said}") {
+            // Nobody reads on.
+            Err(why) if why.kind() == ErrorKind::BrokenPipe => break,
+            written => written?,
         }
     }
     Ok(())

@@ -1,7 +1,9 @@
 //! The six calls beside the picker: what is asked before a sheet is there, on a
 //! sphere, and where the picker finds nothing.
 
-use crate::archive;
+use facepoint_calls::SIDE_LENGTH;
+
+use crate::archive::{self, Five};
 use crate::{Refusal, Sense, Xyz};
 
 /// Whether a trim is to be walked the other way, and whether it is of use at all.
@@ -43,7 +45,7 @@ pub struct Side {
 
 impl Side {
     /// In the order of the call's list.
-    fn numbers(&self) -> [f64; 19] {
+    fn numbers(&self) -> [f64; SIDE_LENGTH] {
         let [a, b] = self.ends;
         let c = self.circle_centre;
         let [d, e] = self.evaluated;
@@ -82,7 +84,7 @@ pub struct Middle {
     pub height: f64,
 }
 
-fn xyz([x, y, z, ..]: [f64; 5]) -> Xyz {
+fn xyz([x, y, z, ..]: Five) -> Xyz {
     [x, y, z]
 }
 

@@ -1,101 +1,24 @@
-//! The proved calls over the C convention, and all that is unsafe in this crate. A
-//! list goes as the pointer to its first element and the number of its elements.
+//! The proved calls on slices, and all that is unsafe in this crate. Over the C
+//! convention (rust/calls) a list goes as the pointer to its first element and the
+//! number of its elements.
+
+use facepoint_calls::{
+    facepoint_chart, facepoint_cylinder_point, facepoint_direction, facepoint_image_pick,
+    facepoint_placed, facepoint_plane_pick, facepoint_point_on, facepoint_sample_parameter,
+    facepoint_spherical_triangle, RESULT_LENGTH,
+};
 
 use crate::Refusal;
 
 /// The numbers beside a status: x, y, z, clearance, count.
-pub(crate) type Five = [f64; 5];
-
-extern "C" {
-    fn facepoint_chart(
-        sheet: *const u8,
-        sheet_length: usize,
-        phase: u32,
-        points: *mut f64,
-        points_length: usize,
-        result: *mut f64,
-        result_length: usize,
-    ) -> u32;
-
-    fn facepoint_image_pick(
-        sheet: *const u8,
-        sheet_length: usize,
-        phase: u32,
-        images: *const f64,
-        images_length: usize,
-        result: *mut f64,
-        result_length: usize,
-    ) -> u32;
-
-    fn facepoint_plane_pick(
-        sheet: *const u8,
-        sheet_length: usize,
-        result: *mut f64,
-        result_length: usize,
-    ) -> u32;
-
-    fn facepoint_sample_parameter(
-        a: f64,
-        b: f64,
-        n: u32,
-        result: *mut f64,
-        result_length: usize,
-    ) -> u32;
-
-    fn facepoint_direction(
-        points: *const f64,
-        points_length: usize,
-        result: *mut f64,
-        result_length: usize,
-    ) -> u32;
-
-    fn facepoint_spherical_triangle(
-        centre: *const f64,
-        centre_length: usize,
-        radius: f64,
-        sense: u32,
-        sides: *const f64,
-        sides_length: usize,
-        result: *mut f64,
-        result_length: usize,
-    ) -> u32;
-
-    fn facepoint_point_on(
-        u_axis: *const f64,
-        u_axis_length: usize,
-        normal: *const f64,
-        normal_length: usize,
-        corners: *const f64,
-        corners_length: usize,
-        result: *mut f64,
-        result_length: usize,
-    ) -> u32;
-
-    fn facepoint_cylinder_point(
-        heights: *const f64,
-        heights_length: usize,
-        angles: *const f64,
-        angles_length: usize,
-        result: *mut f64,
-        result_length: usize,
-    ) -> u32;
-
-    fn facepoint_placed(
-        transform: *const f64,
-        transform_length: usize,
-        point: *const f64,
-        point_length: usize,
-        result: *mut f64,
-        result_length: usize,
-    ) -> u32;
-}
+pub(crate) type Five = [f64; RESULT_LENGTH];
 
 /// Lends a call a result list of five of its own, and tells an answer from a refusal.
 ///
 /// The proofs leave no status but 0 and the numbers of the table; another one comes
 /// from an archive that is not this repository's, and there is no going on with it.
 fn answered(call: impl FnOnce(*mut f64, usize) -> u32) -> Result<Five, Refusal> {
-    let mut result = [0.0; 5];
+    let mut result: Five = [0.0; RESULT_LENGTH];
     match call(result.as_mut_ptr(), result.len()) {
         0 => Ok(result),
         status => Err(Refusal::from_number(status)
@@ -106,7 +29,7 @@ fn answered(call: impl FnOnce(*mut f64, usize) -> u32) -> Result<Five, Refusal> 
 // SAFETY, of all nine: a call is defined for every number and every length, keeps no
 // pointer, and touches nothing but its lists. Each pointer comes from a slice, so it
 // is not null and is valid for the length beside it; what is written to is borrowed
-// for writing, so it overlaps no other list.
+// for writing, so it overlaps no other list. The stack is the caller's to have.
 
 pub(crate) fn chart(sheet: &[u8], phase: u32, points: &mut [f64]) -> Result<Five, Refusal> {
     answered(|result, length| unsafe {

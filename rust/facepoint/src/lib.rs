@@ -46,15 +46,28 @@
 //! # Calls
 //!
 //! No call relies on what was checked before: each makes all of its checks, and answers
-//! for every input. The calls are pure, keep nothing between them and may be made from
-//! several threads at once.
+//! for every input. The calls are pure, keep nothing between them, take no memory from
+//! the heap and may be made from several threads at once.
+//!
+//! Two things are the caller's to see to, since no call can test them:
+//!
+//! - The stack. A call takes at most [`STACK`] bytes of it, whatever it is given; what
+//!   this crate does around it takes little. On a thread that has less left the process
+//!   dies. The threads of [`pick_all`] have std's default size, which is 2 MiB unless
+//!   the environment says otherwise (RUST_MIN_STACK).
+//! - The floating-point environment, which Rust never changes but a C library may:
+//!   rounding to nearest, and no flushing of subnormals to zero. Under
+//!   `fesetround(FE_UPWARD)` the sample panel has a count of 798 in place of 795; with
+//!   flushing, as a program has it that gcc links with `-ffast-math`, a z of 5e-324
+//!   comes back as 0.
 //!
 //! # Building
 //!
-//! The build script links the archive that the environment names by FACEPOINT_ARCHIVE
-//! (its whole path), else the repository's target/staticlib/libcapi.a; where neither is
-//! there it has the archive built by `rt staticlib capi`, which wants the Rattle kit
-//! and some minutes. The archive is for x86-64 Linux.
+//! The build script of rust/calls links the archive that the environment names by
+//! FACEPOINT_ARCHIVE (its whole path), else the repository's
+//! target/staticlib/libcapi.a; where neither is there it has the archive built by `rt
+//! staticlib capi`, which wants the Rattle kit and some minutes. The archive is for
+//! x86-64 Linux; of the C library it calls `fmod`, `memset` and `memcpy` at most.
 
 #![deny(missing_docs, unsafe_code)]
 
@@ -82,6 +95,22 @@ pub use sheet::{BuildError, Coedge, Face, Kind, Plane, Ring, Sense, Sheet, SAMPL
 #[cfg(doctest)]
 #[doc = include_str!("../../../README.md")]
 struct Readme;
+
+/// The bytes of stack that a call may take, with a margin; whatever it is given, it
+/// takes no more. A thread that is made for calls needs this and room for itself:
+///
+/// ```
+/// use std::thread;
+/// use facepoint::{plane_pick, Refusal, Sheet, STACK};
+///
+/// // For the thread's own start, and for what stands above the call.
+/// const ITS_OWN: usize = 64 * 1024;
+/// let thread = thread::Builder::new().stack_size(STACK + ITS_OWN);
+/// let empty = thread.spawn(|| plane_pick(&Sheet::from_bytes([])))?;
+/// assert_eq!(empty.join().expect("no panic"), Err(Refusal::Length));
+/// # Ok::<(), std::io::Error>(())
+/// ```
+pub const STACK: usize = facepoint_calls::STACK;
 
 /// A point of a face's chart: u, v.
 pub type Uv = [f64; 2];

@@ -4,7 +4,7 @@ mod common;
 
 use std::fs;
 use std::path::{Path, PathBuf};
-use std::process::{Command, Output};
+use std::process::{Command, Output, Stdio};
 
 use common::{between, inner_band, picture_path, sample, sample_path, written, SAMPLES};
 use facepoint::{Kind, Sense, Sheet};
@@ -31,14 +31,18 @@ fn draw(paths: &[&Path]) -> Output {
     run(Path::new(env!("CARGO_BIN_EXE_draw")), paths)
 }
 
-/// `cargo test` builds the examples beside the tests, whose folder is deps/.
 fn example(name: &str, paths: &[&Path]) -> Output {
+    run(&example_path(name), paths)
+}
+
+/// `cargo test` builds the examples beside the tests, whose folder is deps/.
+fn example_path(name: &str) -> PathBuf {
     let here = std::env::current_exe().expect("this test");
     let folder = here.ancestors().nth(2).expect("above deps/");
     let program = folder.join("examples").join(name);
     let missing = "`cargo test` builds it, and `cargo test --test programs` does not";
     assert!(program.is_file(), "{}: {missing}", program.display());
-    run(&program, paths)
+    program
 }
 
 fn pick_files(paths: &[&Path]) -> Output {
@@ -152,6 +156,19 @@ fn body_has_its_points() {
     for (line, start) in lines.iter().zip(starts) {
         assert!(line.starts_with(start), "{line}");
     }
+}
+
+/// Where nobody reads on it ends, and says nothing.
+#[test]
+fn body_ends_with_its_reader() {
+    let (reader, writer) = std::io::pipe().expect("a pipe");
+    drop(reader);
+    let mut body = Command::new(example_path("body"));
+    let output = body.stdout(writer).stderr(Stdio::piped()).spawn();
+    let output = output.expect("a program that runs").wait_with_output();
+    let output = output.expect("a program that ends");
+    assert_eq!(said(&output.stderr), "");
+    assert!(output.status.success());
 }
 
 #[test]

@@ -6,7 +6,7 @@ pub mod plates;
 pub mod replay;
 mod side;
 
-pub use side::{Side, SIDE_LENGTH};
+pub use side::{Side, Triangle, SIDE_LENGTH};
 
 use std::fmt;
 

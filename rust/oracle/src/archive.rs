@@ -1,11 +1,8 @@
 //! The proved calls, linked from the archive that `rt staticlib capi` writes. A
-//! slice goes over the C convention as its pointer and then its length, which
-//! counts elements.
+//! slice goes over the C convention (rust/calls) as its pointer and then its length,
+//! which counts elements.
 
-extern "C" {
-    fn facepoint_root(x: f64) -> f64;
-    fn facepoint_round(x: f64) -> f64;
-}
+use facepoint_calls::{facepoint_root, facepoint_round};
 
 #[inline]
 pub fn root(x: f64) -> f64 {
@@ -19,43 +16,16 @@ pub fn round(x: f64) -> f64 {
     unsafe { facepoint_round(x) }
 }
 
-#[cfg(facepoint_calls)]
-pub use calls::{chart, image_pick, made, plane_pick};
+#[cfg(facepoint_picker)]
+pub use picker::{chart, image_pick, made, plane_pick};
 
 /// The three calls on a sheet; `result` takes x, y, z, clearance and count.
-#[cfg(facepoint_calls)]
-mod calls {
+#[cfg(facepoint_picker)]
+mod picker {
+    use facepoint_calls::{facepoint_chart, facepoint_image_pick, facepoint_plane_pick};
+
     use crate::call::Call;
     use crate::convention::Lent;
-
-    extern "C" {
-        fn facepoint_chart(
-            sheet: *const u8,
-            sheet_length: usize,
-            phase: u32,
-            points: *mut f64,
-            points_length: usize,
-            result: *mut f64,
-            result_length: usize,
-        ) -> u32;
-
-        fn facepoint_image_pick(
-            sheet: *const u8,
-            sheet_length: usize,
-            phase: u32,
-            images: *const f64,
-            images_length: usize,
-            result: *mut f64,
-            result_length: usize,
-        ) -> u32;
-
-        fn facepoint_plane_pick(
-            sheet: *const u8,
-            sheet_length: usize,
-            result: *mut f64,
-            result_length: usize,
-        ) -> u32;
-    }
 
     // SAFETY, of all three: defined for every sheet, phase and length. Each pointer
     // is valid for the length beside it, and what is written overlaps nothing.
@@ -114,65 +84,13 @@ mod calls {
 /// The six calls after the picker.
 #[cfg(facepoint_after)]
 pub mod after {
+    use facepoint_calls::{
+        facepoint_cylinder_point, facepoint_direction, facepoint_placed, facepoint_point_on,
+        facepoint_sample_parameter, facepoint_spherical_triangle,
+    };
+
     use crate::after::convention::Lent;
     use crate::after::Call;
-
-    extern "C" {
-        fn facepoint_sample_parameter(
-            a: f64,
-            b: f64,
-            n: u32,
-            result: *mut f64,
-            result_length: usize,
-        ) -> u32;
-
-        fn facepoint_direction(
-            points: *const f64,
-            points_length: usize,
-            result: *mut f64,
-            result_length: usize,
-        ) -> u32;
-
-        fn facepoint_spherical_triangle(
-            centre: *const f64,
-            centre_length: usize,
-            radius: f64,
-            sense: u32,
-            sides: *const f64,
-            sides_length: usize,
-            result: *mut f64,
-            result_length: usize,
-        ) -> u32;
-
-        fn facepoint_point_on(
-            u_axis: *const f64,
-            u_axis_length: usize,
-            normal: *const f64,
-            normal_length: usize,
-            corners: *const f64,
-            corners_length: usize,
-            result: *mut f64,
-            result_length: usize,
-        ) -> u32;
-
-        fn facepoint_cylinder_point(
-            heights: *const f64,
-            heights_length: usize,
-            angles: *const f64,
-            angles_length: usize,
-            result: *mut f64,
-            result_length: usize,
-        ) -> u32;
-
-        fn facepoint_placed(
-            transform: *const f64,
-            transform_length: usize,
-            point: *const f64,
-            point_length: usize,
-            result: *mut f64,
-            result_length: usize,
-        ) -> u32;
-    }
 
     /// Whichever call it is, made with what is lent for it.
     pub fn made(lent: &mut Lent) -> u32 {

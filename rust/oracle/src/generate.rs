@@ -4,12 +4,14 @@
 pub mod after;
 mod calls;
 mod damage;
+mod faces;
 mod families;
 mod images;
 mod shapes;
 mod thresholds;
 
 pub use calls::{calls, damaged_calls, reordered, Trial};
+pub use faces::{face, Face};
 pub(crate) use images::on_flat_plane;
 pub use shapes::largest;
 

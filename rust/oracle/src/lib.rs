@@ -28,6 +28,8 @@ pub mod vectors;
 
 #[cfg(facepoint_archive)]
 pub mod archive;
+#[cfg(all(facepoint_picker, facepoint_after))]
+pub mod stack;
 
 #[doc(hidden)]
 pub use shims::cadmpeg::{eval, geometry, math};

@@ -89,14 +89,20 @@ impl Copy {
     }
 
     fn pick_evaluated(&self, sheet: &Sheet, phase: u32, evaluation: Evaluation) -> Run {
-        self.run(sheet, evaluation, |rows| {
+        let scene = Scene::new(samples(sheet), evaluation);
+        self.run(rows(sheet), scene, |rows| {
             (self.pick)(&rows.context, &rows.face, &rows.geometry, angle(phase))
         })
     }
 
     /// `point` of uv.rs: `pick`, on a torus once more at the other phase.
     pub fn point(&self, sheet: &Sheet, surface: Surface) -> Run {
-        self.run(sheet, evaluated_on(sheet, surface), |rows| {
+        let scene = Scene::new(samples(sheet), evaluated_on(sheet, surface));
+        self.point_of(rows(sheet), scene)
+    }
+
+    fn point_of(&self, rows: Rows, scene: Scene) -> Run {
+        self.run(rows, scene, |rows| {
             (self.point)(&rows.context, &rows.face, &rows.geometry)
         })
     }
@@ -104,20 +110,15 @@ impl Copy {
     /// `spherical_triangle` of uv.rs, which `pick` tries first on a sphere.
     pub fn spherical_triangle(&self, sheet: &Sheet, surface: Surface) -> Picked {
         let triangle = self.spherical_triangle;
-        let run = self.run(sheet, evaluated_on(sheet, surface), |rows| {
+        let scene = Scene::new(samples(sheet), evaluated_on(sheet, surface));
+        let run = self.run(rows(sheet), scene, |rows| {
             triangle(&rows.context, &rows.face, &rows.geometry)
         });
         run.point
     }
 
-    fn run(
-        &self,
-        sheet: &Sheet,
-        evaluation: Evaluation,
-        call: impl FnOnce(&Rows) -> Picked,
-    ) -> Run {
-        let rows = rows(sheet);
-        scene::set(Scene::new(samples(sheet), evaluation));
+    fn run(&self, rows: Rows, scene: Scene, call: impl FnOnce(&Rows) -> Picked) -> Run {
+        scene::set(scene);
         recorder::reset();
         let point = call(&rows);
         let scene = scene::take().expect("the scene set above");

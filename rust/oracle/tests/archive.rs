@@ -1,7 +1,9 @@
-//! The proved leaves against the hardware's root and Rust's round. Nothing is
-//! tested where the archive is absent; build.rs looks for it.
+//! The proved leaves against the hardware's root and Rust's round, and what the archive
+//! wants of the C library. Nothing is tested where the archive is absent; rust/calls
+//! looks for it.
 #![cfg(facepoint_archive)]
 
+use std::process::Command;
 use std::thread;
 
 use oracle::archive;
@@ -59,4 +61,21 @@ fn leaves_equal_the_hardware_on_random_arguments() {
     for worker in workers {
         worker.join().expect("the leaves equal the hardware");
     }
+}
+
+/// The three that header, README and rust/facepoint name. Which of memset and memcpy
+/// there is a call of is the compiler's choice.
+#[test]
+fn the_archive_calls_at_most_fmod_memset_and_memcpy() {
+    let nm = Command::new("nm").args(["-u", env!("ARCHIVE")]).output();
+    let nm = nm.expect("nm, which comes with the linker");
+    assert!(nm.status.success());
+    let said = String::from_utf8_lossy(&nm.stdout);
+    let undefined: Vec<&str> = said
+        .lines()
+        .filter_map(|line| line.trim().strip_prefix("U "))
+        .collect();
+    assert!(undefined.contains(&"fmod"), "{undefined:?}");
+    let is_named = |name: &&str| ["fmod", "memset", "memcpy"].contains(name);
+    assert!(undefined.iter().all(is_named), "{undefined:?}");
 }

@@ -1,10 +1,13 @@
 //! The benchmark of the exported calls: its sheets, and that it gives no ratio where
 //! bits differ. Calls are stubs here, the archive's own where build.rs finds one.
 
+use std::slice::from_ref;
 use std::sync::atomic::{AtomicU32, Ordering};
+use std::thread;
+use std::time::Duration;
 
-use oracle::bench::sheets::{by_coedges, by_rings, six, Subject};
-use oracle::bench::Report;
+use oracle::bench::sheets::{by_coedges, by_rings, six, six_small, Subject};
+use oracle::bench::{Report, Row};
 use oracle::call::Call;
 use oracle::convention::{Callee, Lent};
 use oracle::model::MODEL;
@@ -40,7 +43,7 @@ fn small() -> [Subject; 2] {
 /// Each of the sheets is refused: no row, no ratio.
 fn assert_no_ratio(subjects: &[Subject], callee: Callee, found: &str) {
     for subject in subjects {
-        let report = Report::of(std::slice::from_ref(subject), callee, 1);
+        let report = Report::of(from_ref(subject), callee, 1);
         let text = report.to_string();
         assert!(!report.bits_agree() && !report.meets_bar(), "{text}");
         assert_eq!(report.rows().count(), 0, "{text}");
@@ -63,6 +66,39 @@ fn equal_bits_get_a_ratio() {
         assert!(row.shims.least < row.stand_in.least, "{row:?}");
         assert_eq!(row.parts.is_some(), row.name == "cylinder");
     }
+}
+
+#[test]
+fn small_sheets_are_answered() {
+    let report = Report::of(&six_small(), &model, 1);
+    assert!(report.bits_agree(), "{report}");
+    assert_eq!(report.rows().count(), 6);
+    assert!(report.rows().all(|row| row.parts.is_some()));
+}
+
+/// A slow call on a small sheet leaves the least ratio as it is, a wrong bit does not.
+#[test]
+fn small_sheets_have_no_bar() {
+    let [plate_a, cylinder] = small();
+    let slow = |lent: &mut Lent| {
+        if lent.call == Call::Chart {
+            thread::sleep(Duration::from_millis(10));
+        }
+        model(lent)
+    };
+    let report = Report::of(from_ref(&plate_a), &slow, 1);
+    let report = report.with_small(from_ref(&cylinder), &slow);
+    assert_eq!((report.rows().count(), report.small().count()), (1, 1));
+    let ratio = |row: &Row| row.ratio(row.published).least;
+    assert_eq!(report.least_ratio(), report.rows().map(ratio).next());
+    assert!(report
+        .to_string()
+        .contains("\nsmall, without a bar\ncylinder "));
+
+    let wrong = |lent: &mut Lent| model(lent) + u32::from(lent.call == Call::ImagePick);
+    let report = Report::of(&[plate_a], &wrong, 1).with_small(&[cylinder], &wrong);
+    assert_eq!((report.rows().count(), report.small().count()), (1, 0));
+    assert!(!report.bits_agree() && report.least_ratio().is_none());
 }
 
 #[test]
@@ -146,18 +182,23 @@ fn the_sheets_have_the_sizes_that_are_asked_for() {
         assert_eq!(rings.len(), 16);
         assert!(rings.iter().all(|ring| ring.0.len() == 8));
     }
+    for subject in six_small() {
+        assert!((4..=6).contains(&subject.sheet.coedges().count()));
+        assert!(!subject.is_plane());
+    }
     for series in [by_rings(), by_coedges()] {
         let doubled = [68, 136, 272, 544, 1088, 2176];
         assert_eq!(series.each_ref().map(segments), doubled);
     }
 }
 
-#[cfg(facepoint_calls)]
+#[cfg(facepoint_picker)]
 #[test]
 fn the_archive_agrees_on_every_sheet() {
     let report = Report::new(&oracle::archive::made, 1);
     print!("{report}");
     assert!(report.bits_agree());
     assert_eq!(report.rows().count(), 6);
+    assert_eq!(report.small().count(), 6);
     assert!(report.least_ratio().is_some());
 }

@@ -4,7 +4,7 @@ use std::f64::consts::FRAC_PI_2;
 use std::fs;
 use std::path::Path;
 
-use oracle::generate::case;
+use oracle::generate::{case, face};
 use oracle::original::{PUBLISHED, RECORDED, STAND_IN};
 use oracle::rng::Rng;
 use oracle::sheet::{Ring, Sheet, FORWARD, REVERSED, SPHERE, TORUS};
@@ -142,6 +142,31 @@ fn point_is_pick_with_the_torus_retry() {
         );
     }
     assert!(retried >= 5);
+}
+
+/// On a sphere's face of three sides `point` is the triangle, and where that has none
+/// `pick` on the chart, whatever the sides' carriers are.
+#[test]
+fn point_tries_the_triangle_first() {
+    let (mut triangles, mut charts) = (0, 0);
+    for face in (0..2_400).map(face) {
+        let Some(triangle) = &face.triangle else {
+            continue;
+        };
+        let (centre, radius, sense) = (triangle.centre, triangle.radius, face.sheet.sense);
+        let sides = &triangle.sides;
+        let (middle, _) = STAND_IN.triangle(centre, radius, u32::from(sense), sides);
+        let on_chart = || STAND_IN.pick(&face.sheet, 0, face.surface).point;
+        let expected = middle.or_else(on_chart);
+        let point = STAND_IN.point_of_triangle(&face.sheet, face.surface, triangle);
+        assert_eq!(
+            point.point.map(|p| p.map(f64::to_bits)),
+            expected.map(|p| p.map(f64::to_bits))
+        );
+        triangles += usize::from(middle.is_some());
+        charts += usize::from(middle.is_none() && expected.is_some());
+    }
+    assert!(triangles >= 100 && charts >= 100, "{triangles}, {charts}");
 }
 
 /// As published, with the standard library's hypot: the same faces get a point,

@@ -21,6 +21,17 @@ pub struct Lent {
 pub type Callee<'a> = &'a (dyn Fn(&mut Lent) -> u32 + Sync);
 
 impl Lent {
+    /// What is given, with so many places of result.
+    pub fn new(given: &Given, places: usize) -> Lent {
+        let guarded = |list: &Vec<f64>| Guarded::new(list.clone(), UNWRITTEN);
+        Lent {
+            call: given.call,
+            whole: given.whole,
+            lists: given.lists.iter().map(guarded).collect(),
+            result: Guarded::new(vec![UNWRITTEN; places], UNWRITTEN),
+        }
+    }
+
     pub fn given(&mut self) -> Given {
         Given {
             call: self.call,
@@ -37,13 +48,7 @@ impl Lent {
 /// The first thing that a call with so many places of result should not have left
 /// behind: the lists are never written, nor what stands behind any of them.
 fn left_wrong(callee: Callee, given: &Given, places: usize, left: Left) -> Option<String> {
-    let guarded = |list: &Vec<f64>| Guarded::new(list.clone(), UNWRITTEN);
-    let mut lent = Lent {
-        call: given.call,
-        whole: given.whole,
-        lists: given.lists.iter().map(guarded).collect(),
-        result: Guarded::new(vec![UNWRITTEN; places], UNWRITTEN),
-    };
+    let mut lent = Lent::new(given, places);
     let status = callee(&mut lent);
     if status != left.status {
         return Some(format!("status {status}, not {}", left.status));

@@ -1,9 +1,27 @@
-//! One side of a spherical triangle, as the call's list has it.
+//! A spherical triangle and its sides, as the call's lists have them.
 
-use super::triple;
+pub use facepoint_calls::SIDE_LENGTH;
 
-/// The numbers of a side.
-pub const SIDE_LENGTH: usize = 19;
+use super::{triple, Given};
+
+#[derive(Clone, Copy, Debug)]
+pub struct Triangle {
+    pub centre: [f64; 3],
+    pub radius: f64,
+    pub sides: [Side; 3],
+}
+
+impl Triangle {
+    /// Of a call whose lists have their length.
+    pub fn read(given: &Given) -> Triangle {
+        let [centre, radius, sides] = [0, 1, 2].map(|k| &given.lists[k][..]);
+        Triangle {
+            centre: triple(centre),
+            radius: radius[0],
+            sides: [0, 1, 2].map(|k| Side::read(&sides[SIDE_LENGTH * k..])),
+        }
+    }
+}
 
 #[derive(Clone, Copy, Debug)]
 pub struct Side {

@@ -1,13 +1,12 @@
 //! The exported calls on one sheet, with the lists that they are lent again and
 //! again, and what they must leave behind.
 
+use facepoint_calls::RESULT_LENGTH;
+
 use super::sheets::Subject;
 use crate::call::{Given, Left};
 use crate::convention::{Callee, Lent};
 use crate::surface::Surface;
-
-/// Numbers of a result: x, y, z, clearance and count.
-const RESULT: usize = 5;
 
 /// One call that is made again and again with the same lists.
 struct Repeated {
@@ -25,7 +24,7 @@ impl Repeated {
             return Err(format!("{} refuses by {}", given.call, left.status));
         }
         Ok(Repeated {
-            lent: Lent::new(&given, RESULT),
+            lent: Lent::new(&given, RESULT_LENGTH),
             status: u32::MAX,
             given,
             left,

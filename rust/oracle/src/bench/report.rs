@@ -2,7 +2,7 @@
 
 use std::fmt;
 
-use super::sheets::{by_coedges, by_rings, six, Subject};
+use super::sheets::{by_coedges, by_rings, six, six_small, Subject};
 use super::{growth, measured, Growth, Row, Times};
 use crate::convention::Callee;
 
@@ -12,44 +12,67 @@ const GOAL: f64 = 100.0;
 /// How many times longer 2176 segments may take than 68: 32 times as many.
 const MOST_GROWTH: f64 = 32.0;
 
+/// What was measured of a sheet, or what differed on it, under its name.
+type Measured = (String, Result<Row, String>);
+
 /// What was measured of each sheet, or what differed on it.
 pub struct Report {
     rounds: usize,
-    rows: Vec<(String, Result<Row, String>)>,
+    /// Those whose ratios are asked for.
+    rows: Vec<Measured>,
+    /// Those without a bar.
+    small: Vec<Measured>,
     growths: Vec<Result<Growth, String>>,
 }
 
 impl Report {
-    /// The six sheets and both series.
+    /// The six sheets, the six small ones and both series.
     pub fn new(callee: Callee, rounds: usize) -> Report {
+        let rows = Report::of(&six(), callee, rounds);
         Report {
             growths: [by_rings(), by_coedges()]
                 .map(|subjects| growth(&subjects, callee, rounds))
                 .into(),
-            ..Report::of(&six(), callee, rounds)
+            ..rows.with_small(&six_small(), callee)
         }
     }
 
     /// These sheets alone.
     pub fn of(subjects: &[Subject], callee: Callee, rounds: usize) -> Report {
-        let row = |subject: &Subject| (subject.name.clone(), measured(subject, callee, rounds));
         Report {
             rounds,
-            rows: subjects.iter().map(row).collect(),
+            rows: rows(subjects, callee, rounds),
+            small: Vec::new(),
             growths: Vec::new(),
         }
     }
 
-    /// The sheets on which all answers have the same bits.
+    /// These sheets too, without a bar.
+    pub fn with_small(self, subjects: &[Subject], callee: Callee) -> Report {
+        Report {
+            small: rows(subjects, callee, self.rounds),
+            ..self
+        }
+    }
+
+    /// The sheets whose ratios are asked for and on which all answers have the same
+    /// bits.
     pub fn rows(&self) -> impl Iterator<Item = &Row> {
-        self.rows.iter().filter_map(|(_, row)| row.as_ref().ok())
+        agreeing(&self.rows)
+    }
+
+    /// The small sheets on which all answers have the same bits.
+    pub fn small(&self) -> impl Iterator<Item = &Row> {
+        agreeing(&self.small)
     }
 
     pub fn bits_agree(&self) -> bool {
-        self.rows.iter().all(|(_, row)| row.is_ok()) && self.growths.iter().all(Result::is_ok)
+        let mut measured = self.rows.iter().chain(&self.small);
+        measured.all(|(_, row)| row.is_ok()) && self.growths.iter().all(Result::is_ok)
     }
 
-    /// The least ratio to the original as published; none where bits differ.
+    /// The least ratio to the original as published, the small sheets' aside; none
+    /// where any bits differ.
     pub fn least_ratio(&self) -> Option<f64> {
         let ratios = self.rows().map(|row| row.ratio(row.published).least);
         self.bits_agree()
@@ -63,6 +86,15 @@ impl Report {
         least.is_some_and(|least| least >= BAR)
             && growths.all(|growth| growth.ratio() <= MOST_GROWTH)
     }
+}
+
+fn rows(subjects: &[Subject], callee: Callee, rounds: usize) -> Vec<Measured> {
+    let row = |subject: &Subject| (subject.name.clone(), measured(subject, callee, rounds));
+    subjects.iter().map(row).collect()
+}
+
+fn agreeing(measured: &[Measured]) -> impl Iterator<Item = &Row> {
+    measured.iter().filter_map(|(_, row)| row.as_ref().ok())
 }
 
 const HEAD: &str = "\
@@ -109,22 +141,22 @@ impl Report {
         writeln!(f, "{:64}original over exported", "")?;
         let columns = "segments std hypot  stand-in     shims  exported  std hypot  stand-in";
         writeln!(f, "{:20}{columns}", "sheet")?;
-        for (name, row) in &self.rows {
-            match row {
-                Ok(row) => write_row(f, row)?,
-                Err(found) => writeln!(f, "{name:18} no ratio: {found}")?,
-            }
+        write_rows(f, &self.rows)?;
+        if !self.small.is_empty() {
+            writeln!(f, "small, without a bar")?;
+            write_rows(f, &self.small)?;
         }
         writeln!(f)
     }
 
     fn parts(&self, f: &mut fmt::Formatter) -> fmt::Result {
-        if self.rows().all(|row| row.parts.is_none()) {
+        let rows = || self.rows().chain(self.small());
+        if rows().all(|row| row.parts.is_none()) {
             return Ok(());
         }
         let columns = "   chart  evaluation  image pick";
         writeln!(f, "{:20}{columns}", "exported, divided")?;
-        for row in self.rows() {
+        for row in rows() {
             if let Some(parts) = row.parts {
                 let [chart, evaluation, pick] = parts.map(|part| part.least);
                 write!(f, "{:18} {chart:9.1}", row.name)?;
@@ -133,6 +165,16 @@ impl Report {
         }
         writeln!(f)
     }
+}
+
+fn write_rows(f: &mut fmt::Formatter, measured: &[Measured]) -> fmt::Result {
+    for (name, row) in measured {
+        match row {
+            Ok(row) => write_row(f, row)?,
+            Err(found) => writeln!(f, "{name:18} no ratio: {found}")?,
+        }
+    }
+    Ok(())
 }
 
 /// A line of the least times and one of the medians.

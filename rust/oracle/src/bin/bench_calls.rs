@@ -3,13 +3,13 @@
 //! `--quick` takes fewer rounds; with `--bar` a missed bar is status 1, as differing
 //! bits always are.
 
-#[cfg(not(facepoint_calls))]
+#[cfg(not(facepoint_picker))]
 fn main() {
     eprintln!("no archive with the three calls: run `rt staticlib capi` at the repository's root");
     std::process::exit(2);
 }
 
-#[cfg(facepoint_calls)]
+#[cfg(facepoint_picker)]
 fn main() {
     use oracle::archive::made;
     use oracle::bench::Report;

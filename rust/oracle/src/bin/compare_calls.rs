@@ -2,13 +2,13 @@
 //! seeds, and prints how often each thing came up; a difference is a panic:
 //! `cargo run --release --offline --bin compare_calls -- 140000`
 
-#[cfg(not(facepoint_calls))]
+#[cfg(not(facepoint_picker))]
 fn main() {
     eprintln!("no archive with the three calls: run `rt staticlib capi` at the repository's root");
     std::process::exit(2);
 }
 
-#[cfg(facepoint_calls)]
+#[cfg(facepoint_picker)]
 fn main() {
     use oracle::archive::made;
     use oracle::convention::compare_seed;

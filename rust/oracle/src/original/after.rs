@@ -1,14 +1,15 @@
 //! Drives the original's functions that are calls after the picker: the numbers of
 //! a call become the rows that the function walks.
 
-use super::{Copy, Picked};
-use crate::after::Side;
+use super::{evaluated_on, rows, samples, Copy, Picked, Run};
+use crate::after::{Side, Triangle};
 use crate::geometry::SurfaceGeometry;
 use crate::recorder::{self, Stage};
-use crate::sheet::{FORWARD, REVERSED};
+use crate::sheet::{Sheet, FORWARD, REVERSED, SAMPLES};
 use crate::shims::json::{from_value, Value};
 use crate::shims::scene::{self, Evaluation, Scene};
 use crate::shims::Context;
+use crate::surface::Surface;
 
 type V3 = [f64; 3];
 
@@ -106,10 +107,7 @@ impl Copy {
             Ok(REVERSED) => face.push(("sense", Value::text("reversed"))),
             _ => {}
         }
-        let geometry = object(&[
-            ("center", Value::vector(centre)),
-            ("radius", Value::Number(radius)),
-        ]);
+        let geometry = sphere(centre, radius);
         // The evaluations are asked for side by side, each side's ends in turn.
         let evaluated = sides.iter().flat_map(|side| side.evaluated).collect();
         scene::set(Scene::new(Vec::new(), Evaluation::InOrder(evaluated)));
@@ -117,6 +115,25 @@ impl Copy {
         let point = (self.spherical_triangle)(&context, &Value::Object(face), &geometry);
         scene::take();
         (point, recorder::record().stage)
+    }
+
+    /// `point` of uv.rs on a sphere's face whose one ring is a triangle's three sides:
+    /// `pick` tries the triangle first. The sheet has what the sides are in the chart.
+    pub fn point_of_triangle(&self, sheet: &Sheet, surface: Surface, triangle: &Triangle) -> Run {
+        let mut rows = rows(sheet);
+        let mut samples = samples(sheet);
+        let coedges = samples.chunks_exact_mut(SAMPLES);
+        for (index, (side, coedge)) in triangle.sides.iter().zip(coedges).enumerate() {
+            side_rows(&mut rows.context, index, side);
+            // A carrier's samples go as its edge does.
+            if side.reversed != 0.0 {
+                coedge.reverse();
+            }
+        }
+        rows.geometry = sphere(triangle.centre, triangle.radius);
+        let mut scene = Scene::new(samples, evaluated_on(sheet, surface));
+        scene.sides = triangle.sides.into();
+        self.point_of(rows, scene)
     }
 
     /// `point_on` of faces.rs on a plane with these corners.
@@ -174,10 +191,21 @@ impl Copy {
     }
 }
 
+fn sphere(centre: V3, radius: f64) -> Value {
+    object(&[
+        ("kind", Value::text("sphere")),
+        ("center", Value::vector(centre)),
+        ("radius", Value::Number(radius)),
+    ])
+}
+
+/// The rows of one side; where a sheet's rows are there already, in place of those of
+/// its coedge.
 fn side_rows(context: &mut Context, index: usize, side: &Side) {
     let id = index.to_string();
     let circle = object(&[
         ("kind", Value::text("circle")),
+        ("first_sample", Value::Number((SAMPLES * index) as f64)),
         ("center", Value::vector(side.circle_centre)),
         ("radius", Value::Number(side.circle_radius)),
     ]);

@@ -36,17 +36,17 @@ pub mod geometry {
     pub enum CurveGeometry {
         /// The sheet's samples from this index on.
         Samples(usize),
-        /// A side of a triangle: the scene evaluates its ends.
-        Circle,
+        /// The same on a side of a triangle: the scene evaluates it.
+        Circle(usize),
     }
 
     impl FromValue for CurveGeometry {
         fn from_value(value: &Value) -> Option<CurveGeometry> {
-            if value.get("kind")?.as_str()? == "circle" {
-                return Some(CurveGeometry::Circle);
-            }
             let first_sample = value.get("first_sample")?.as_f64()? as usize;
-            Some(CurveGeometry::Samples(first_sample))
+            Some(match value.get("kind")?.as_str()? {
+                "circle" => CurveGeometry::Circle(first_sample),
+                _ => CurveGeometry::Samples(first_sample),
+            })
         }
     }
 
@@ -176,9 +176,9 @@ pub mod eval {
         ) -> Result<Admitted<Point3>, Failed> {
             match curve {
                 CurveGeometry::Samples(first) => Ok(admitted(Scene::name(first + t as usize))),
-                CurveGeometry::Circle => {
-                    let p = scene::with(|scene| scene.evaluate([t, 0.0])).ok_or(Failed)?;
-                    Ok(admitted(p))
+                CurveGeometry::Circle(first) => {
+                    let p = scene::with(|scene| scene.circle_point(*first, t));
+                    p.map(admitted).ok_or(Failed)
                 }
             }
         }

@@ -2,12 +2,12 @@
 //! The archive that `rt staticlib capi` writes is judged where build.rs finds one;
 //! the comparison itself is judged always, by stubs with planted faults.
 
-#[cfg(facepoint_calls)]
+#[cfg(facepoint_picker)]
 mod archive;
 mod reached;
 mod stubs;
 
-#[cfg(all(facepoint_archive, not(facepoint_calls)))]
+#[cfg(all(facepoint_archive, not(facepoint_picker)))]
 #[test]
 fn the_archive_exports_the_calls() {
     panic!("the archive that build.rs found has not all three calls: run 'rt staticlib capi'");

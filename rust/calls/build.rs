@@ -1,8 +1,13 @@
-//! Finds the archive of the proved calls, or has it built, and links it. The order:
+//! Finds the archive of the proved calls and links it. The order:
 //!
-//! 1. the file that the environment names by FACEPOINT_ARCHIVE,
+//! 1. the file that the environment names by FACEPOINT_ARCHIVE, or none where it says
+//!    `none`,
 //! 2. the repository's target/staticlib/libcapi.a, as it stands,
-//! 3. `rt staticlib capi` at the repository's root, which proves and writes it.
+//! 3. with the feature `archive`: `rt staticlib capi` at the repository's root, which
+//!    proves and writes it.
+//!
+//! Without the feature nothing is linked where there is no archive. A named file that
+//! is missing is an error either way.
 
 use std::env;
 use std::io::ErrorKind;
@@ -12,16 +17,58 @@ use std::process::Command;
 fn main() {
     println!("cargo::rerun-if-changed=build.rs");
     println!("cargo::rerun-if-env-changed=FACEPOINT_ARCHIVE");
-    if let Err(lines) = check_target().and_then(|()| find_archive()).and_then(link) {
-        // Each line is an error of cargo's, which then stops.
-        for line in lines {
-            println!("cargo::error={line}");
-        }
+    let found = find_archive().and_then(|archive| archive.map_or(Ok(()), link));
+    // Each line is an error of cargo's, which then stops.
+    for line in found.err().into_iter().flatten() {
+        println!("cargo::error={line}");
     }
 }
 
 /// What is wrong, and what to do about it, a line each.
 type Complaint = Vec<String>;
+
+/// Whether a build without the archive is of no use.
+fn needed() -> bool {
+    env::var_os("CARGO_FEATURE_ARCHIVE").is_some()
+}
+
+fn find_archive() -> Result<Option<PathBuf>, Complaint> {
+    if let Some(named) = env::var_os("FACEPOINT_ARCHIVE") {
+        return named_archive(PathBuf::from(named));
+    }
+    let manifest = env::var_os("CARGO_MANIFEST_DIR").expect("set by cargo");
+    let root = Path::new(&manifest).join("../..");
+    let archive = root.join("target/staticlib/libcapi.a");
+    // A path that is not there yet makes cargo look again at the next build.
+    println!("cargo::rerun-if-changed={}", archive.display());
+    if !archive.is_file() {
+        if !needed() {
+            return Ok(None);
+        }
+        check_target()?;
+        build_archive(&root)?;
+    }
+    Ok(Some(archive))
+}
+
+fn named_archive(named: PathBuf) -> Result<Option<PathBuf>, Complaint> {
+    if named.as_os_str() == "none" && !needed() {
+        return Ok(None);
+    }
+    println!("cargo::rerun-if-changed={}", named.display());
+    if named.is_file() {
+        return Ok(Some(named));
+    }
+    let without = if needed() {
+        ""
+    } else {
+        " say `none` to build without,"
+    };
+    Err(vec![
+        format!("FACEPOINT_ARCHIVE names no file: {}", named.display()),
+        format!("name the archive that `rt staticlib capi` writes,{without} or leave the variable unset"),
+    ])
+}
 
 /// The archive holds machine code for one kind of machine.
 fn check_target() -> Result<(), Complaint> {
@@ -33,29 +80,6 @@ fn check_target() -> Result<(), Complaint> {
     Err(vec![format!(
         "facepoint links into x86-64 Linux programs, and this target is {arch} {os}"
     )])
-}
-
-fn find_archive() -> Result<PathBuf, Complaint> {
-    if let Some(named) = env::var_os("FACEPOINT_ARCHIVE") {
-        let named = PathBuf::from(named);
-        // A path that is not there yet makes cargo look again at the next build.
-        println!("cargo::rerun-if-changed={}", named.display());
-        if named.is_file() {
-            return Ok(named);
-        }
-        return Err(vec![
-            format!("FACEPOINT_ARCHIVE names no file: {}", named.display()),
-            "name the archive that `rt staticlib capi` writes, or leave the variable unset".into(),
-        ]);
-    }
-    let manifest = env::var_os("CARGO_MANIFEST_DIR").expect("set by cargo");
-    let root = Path::new(&manifest).join("../..");
-    let archive = root.join("target/staticlib/libcapi.a");
-    println!("cargo::rerun-if-changed={}", archive.display());
-    if !archive.is_file() {
-        build_archive(&root)?;
-    }
-    Ok(archive)
 }
 
 /// Proves and compiles the calls, some minutes' work from nothing.
@@ -91,6 +115,7 @@ fn build_archive(root: &Path) -> Result<(), Complaint> {
 }
 
 fn link(archive: PathBuf) -> Result<(), Complaint> {
+    check_target()?;
     let unusable = |why: &str| vec![format!("{}: {why}", archive.display())];
     let archive = archive
         .canonicalize()
@@ -101,6 +126,7 @@ fn link(archive: PathBuf) -> Result<(), Complaint> {
         .filter(|_| archive.extension().is_some_and(|end| end == "a"))
         .ok_or_else(|| unusable("an archive is named libNAME.a"))?;
     let folder = archive.parent().ok_or_else(|| unusable("in no folder"))?;
+    println!("cargo::metadata=archive={}", archive.display());
     println!("cargo::rustc-link-search=native={}", folder.display());
     println!("cargo::rustc-link-lib=static={name}");
     // The remainder of two f64 is the C library's fmod.
