@@ -7,10 +7,9 @@ use lib.Dec.{eqb}
 use lib.Ieee.{Float}
 use lib.ListN.{length}
 use borrow.Author.Tests.{eqb-true, not-false}
-use Rattle.sheet.specs.Checks.{beyond}
-use Rattle.sheet.specs.Lists.{anyOf}
-use Rattle.sheet.proofs.Checked.{neither}
-use Rattle.answers.specs.Missing.{missing}
+use Rattle.answers.specs.Limits.{beyond, missing}
+use Rattle.answers.specs.Lists.{anyOf}
+use Rattle.answers.proofs.AnyOf.{neither}
 
 pub present : (n : ℕ) (limit : Float) (xs : List Float) → missing n limit xs ≡ false → length xs ≡ n
 unfolding missing

@@ -1,6 +1,12 @@
 // The outcomes: what a call answers, or a refusal's number. The paper's six numbers for either are the
 // definitions of specs/Answers.antt.
 
+// A point with its three coordinates, clearance and count.
+pub enum Answer {
+    Point(f64, f64, f64, f64, u32),
+    Refused(u32),
+}
+
 // A parameter of a curve.
 pub enum ParameterAnswer {
     Parameter(f64),

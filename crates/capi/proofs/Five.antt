@@ -9,12 +9,12 @@ use lib.IntN.{pos}
 use lib.ListN.{length, set}
 use borrow.Author.Tests.{eq-eqb, ne-eqb}
 use Rattle.leaves.specs.Constants.{zero}
-use Rattle.sheet.specs.Outcome.{Numbers}
-use Rattle.chart.specs.Answer.{paper}
+use Rattle.answers.specs.Outcome.{Numbers}
+use Rattle.answers.specs.Answers.{paper}
 use Rattle.chart.specs.Chart.{Charted, charted}
-use Rattle.chart.proofs.Answers.{paper-point, paper-refused}
-use Rattle.chart.specs.declared.answer.Answer.{Answer}
-use Rattle.chart.specs.declared.answer.Answer.the-variants.{Point, Refused}
+use Rattle.answers.proofs.Papers.{paper-point, paper-refused}
+use Rattle.answers.specs.declared.outcomes.Answer.{Answer}
+use Rattle.answers.specs.declared.outcomes.Answer.the-variants.{Point, Refused}
 use Rattle.capi.specs.Convention.{returned, five, returnedOf, seen, seenOf}
 
 shorter : (n : ℕ) → suc (suc (suc (suc (suc (suc n))))) ≡ 5 → ⊥

@@ -1,5 +1,7 @@
--- Demand 1, of the exported calls, by what the host sees of them: the status returned, the result list, the list that the chart is lent.
--- "The whole picker, from sheet reader to last clearance test, finishes on every input with a point or a numbered refusal. No call relies on checks made by its caller. A refusal gives zeros beside its number
+-- Demand 1, of the exported calls, by what the host sees of them: the status returned, the result list, the list that
+-- the chart is lent.
+-- "The whole picker, from sheet reader to last clearance test, finishes on every input with a point or a numbered
+-- refusal. No call relies on checks made by its caller. A refusal gives zeros beside its number
 -- and leaves each lent list unwritten."
 -- The theorems are of every sheet, phase and list, whatever they hold. A shared list (sheet, images) cannot be written.
 use mathlib.Core.Path.{_≡_, sym, ap, _∙_, subst}
@@ -10,19 +12,20 @@ use lib.Ieee.{Float, ofBits}
 use lib.ListN.{length}
 use borrow.Author.Tests.{eq-eqb}
 use Rattle.leaves.specs.Constants.{zero}
-use Rattle.sheet.specs.Outcome.{Numbers, refused, OneOf}
+use Rattle.answers.specs.Outcome.{Numbers, refused, OneOf}
 use Rattle.chart.specs.Chart.{chartOf}
 use Rattle.chart.proofs.Refusals.{chart-refused, chart-status-most}
 use Rattle.picker.specs.ImagePick.{imagePickOf}
 use Rattle.picker.specs.PlanePick.{planePickOf}
 use Rattle.picker.proofs.Refusals.{image-pick-refused, image-pick-status-most, plane-pick-refused, plane-pick-status-most}
-use Rattle.fallbacks.specs.Cylinder.{cylinderPointOf}
-use Rattle.fallbacks.specs.Direction.{directionOf}
-use Rattle.fallbacks.specs.Placed.{placedOf}
-use Rattle.fallbacks.specs.Sample.{sampleParameterOf}
-use Rattle.fallbacks.specs.Vertices.{pointOnOf}
-use Rattle.fallbacks.proofs.Refusals.{sample-parameter-refused, sample-parameter-status, direction-refused, direction-status, point-on-refused, point-on-status, placed-refused, placed-status}
-use Rattle.fallbacks.proofs.RoundRefusals.{cylinder-refused, cylinder-status}
+use Rattle.round_fallback.specs.Cylinder.{cylinderPointOf}
+use Rattle.steps.specs.Direction.{directionOf}
+use Rattle.steps.specs.Placed.{placedOf}
+use Rattle.steps.specs.Sample.{sampleParameterOf}
+use Rattle.vertex_fallback.specs.Vertices.{pointOnOf}
+use Rattle.steps.proofs.Refusals.{sample-parameter-refused, sample-parameter-status, direction-refused, direction-status, placed-refused, placed-status}
+use Rattle.vertex_fallback.proofs.Refusals.{point-on-refused, point-on-status}
+use Rattle.round_fallback.proofs.Refusals.{cylinder-refused, cylinder-status}
 use Rattle.triangle.specs.Lists.{triangleListsOf}
 use Rattle.triangle.proofs.Refusals.{statuses}
 use Rattle.triangle.proofs.ListRefusals.{triangle-lists-refused, triangle-lists-status}

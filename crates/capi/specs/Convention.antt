@@ -1,4 +1,6 @@
--- Document 01, "The host calls over the C convention, on numbers and slices. Over it a call returns the status and puts the other five numbers in a list of five f64 that counts as result, not as lent; another length: 1, first of all, unwritten".
+-- Document 01, "The host calls over the C convention, on numbers and slices. Over it a call returns the status and puts
+-- the other five numbers in a list of five f64 that counts as result, not as lent; another length: 1, first of all,
+-- unwritten".
 use mathlib.Core.Bool.{cond}
 use mathlib.Core.List.{List, [], _∷_}
 use Prim.Native.Nat.{ℕ}
@@ -6,7 +8,7 @@ use lib.Dec.{eqb}
 use lib.IntN.{pos}
 use lib.ListN.{length}
 use lib.Ieee.{Float, binary64, ofInt}
-use Rattle.sheet.specs.Outcome.{Numbers}
+use Rattle.answers.specs.Outcome.{Numbers}
 use Rattle.chart.specs.Chart.{Charted, chartOf}
 use Rattle.picker.specs.ImagePick.{imagePickOf}
 use Rattle.picker.specs.PlanePick.{planePickOf}

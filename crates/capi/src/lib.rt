@@ -2,23 +2,22 @@
 // target/staticlib/libcapi.a (`rt staticlib capi`). Names carry the prefix facepoint_, since `round`
 // and `hypot` alone would clash with the C library's. A slice goes as a pointer and the number of its
 // elements.
-mod outcomes;
 mod result;
 
-use crate::outcomes::of_direction;
-use crate::outcomes::of_middle;
-use crate::outcomes::of_parameter;
-use crate::outcomes::of_position;
 use crate::result::RESULT_LENGTH;
 use crate::result::put;
+use answers::of_direction;
+use answers::of_middle;
+use answers::of_parameter;
+use answers::of_position;
 ghost use mathlib.Core.Path.{_≡_};
 ghost use Rattle.leaves.specs.Root.{rootOf};
 ghost use Rattle.leaves.specs.Round.{roundOf};
-ghost use Rattle.fallbacks.specs.Cylinder.{cylinderPointOf};
-ghost use Rattle.fallbacks.specs.Direction.{directionOf};
-ghost use Rattle.fallbacks.specs.Placed.{placedOf};
-ghost use Rattle.fallbacks.specs.Sample.{sampleParameterOf};
-ghost use Rattle.fallbacks.specs.Vertices.{pointOnOf};
+ghost use Rattle.round_fallback.specs.Cylinder.{cylinderPointOf};
+ghost use Rattle.steps.specs.Direction.{directionOf};
+ghost use Rattle.steps.specs.Placed.{placedOf};
+ghost use Rattle.steps.specs.Sample.{sampleParameterOf};
+ghost use Rattle.vertex_fallback.specs.Vertices.{pointOnOf};
 ghost use Rattle.triangle.specs.Lists.{triangleListsOf};
 ghost use Rattle.capi.specs.Convention.{returned, returnedOf, seen, chartSeen, imagePickReturned, planePickReturned};
 
@@ -73,7 +72,7 @@ pub extern "C" fn facepoint_sample_parameter(a: f64, b: f64, n: u32, result: &mu
     if result.len() != RESULT_LENGTH {
         return 1;
     }
-    put(of_parameter(fallbacks::sample_parameter(a, b, n)), result)
+    put(of_parameter(steps::sample_parameter(a, b, n)), result)
 }
 
 // The direction test of twelve numbers, first image, last image, start, end: reverse, keep.
@@ -84,7 +83,7 @@ pub extern "C" fn facepoint_direction(points: &[f64], result: &mut [f64]) -> u32
     if result.len() != RESULT_LENGTH {
         return 1;
     }
-    put(of_direction(fallbacks::edge_direction(points)), result)
+    put(of_direction(steps::edge_direction(points)), result)
 }
 
 // The triangle on a sphere, of three numbers and of nineteen a side: x, y, z.
@@ -121,7 +120,7 @@ pub extern "C" fn facepoint_point_on(
         return 1;
     }
     put(
-        of_position(fallbacks::point_on(u_axis, normal, corners)),
+        of_position(vertex_fallback::point_on(u_axis, normal, corners)),
         result,
     )
 }
@@ -139,7 +138,7 @@ pub extern "C" fn facepoint_cylinder_point(
         return 1;
     }
     put(
-        of_middle(fallbacks::cylinder_point(heights, angles)),
+        of_middle(round_fallback::cylinder_point(heights, angles)),
         result,
     )
 }
@@ -152,7 +151,7 @@ pub extern "C" fn facepoint_placed(transform: &[f64], point: &[f64], result: &mu
     if result.len() != RESULT_LENGTH {
         return 1;
     }
-    put(of_position(fallbacks::placed(transform, point)), result)
+    put(of_position(steps::placed(transform, point)), result)
 }
 
 // The IEEE 754 square root: double facepoint_root(double).

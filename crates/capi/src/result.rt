@@ -1,8 +1,8 @@
 // The list of five numbers in which a call's result stands.
-use chart::Answer;
+use answers::Answer;
 ghost use mathlib.Core.Path.{_≡_};
 ghost use lib.ListN.{length};
-ghost use Rattle.chart.specs.Answer.{paper};
+ghost use Rattle.answers.specs.Answers.{paper};
 ghost use Rattle.capi.specs.Convention.{five};
 
 // x, y, z, clearance, count.

@@ -83,7 +83,8 @@ pub none-total : (m : ℕ) (list : List Float) → 0 ≡ weighted 1 (drop (lengt
 unfolding weighted
 none-total m list = rw (drop-length, zero-mod)
 
--- the place in front of those from k on, with the bits b: the sum r from the sum p, and the total u from the total t by way of q
+-- the place in front of those from k on, with the bits b: the sum r from the sum p, and the total u from the total t by
+-- way of q
 module _ (m : ℕ) (list : List Float) (d : Float) where
   sum-front : (k : ℕ) → k < length list → (bitSum (drop (suc k) list) % m + toBits binary64 (getD list k d)) % m ≡ bitSum (drop k list) % m
   unfolding bitSum

@@ -1,4 +1,5 @@
--- The rings of a sheet's content in another order: every check, the frame and the chosen candidate stay the same, bit for bit, where no coordinate is -0. So do a call's status and numbers; the list that the
+-- The rings of a sheet's content in another order: every check, the frame and the chosen candidate stay the same, bit
+-- for bit, where no coordinate is -0. So do a call's status and numbers; the list that the
 -- chart writes goes with the order.
 use mathlib.Core.Path.{_≡_, refl, sym, ap, ap₂, _∙_, fun-ext}
 use mathlib.Core.Bool.{Bool, true, false, cond, _&&_, _||_}
@@ -11,22 +12,24 @@ use lib.Ieee.Fits.{inf-fits}
 use Rattle.leaves.proofs.Choices.{Clear}
 use Rattle.leaves.proofs.Folds.{All, least-perm, greatest-perm, sum-perm}
 use Rattle.sheet.specs.Content.{Point, Coedge, Sheet, ringPoints}
-use Rattle.sheet.specs.Lists.{anyOf}
-use Rattle.sheet.specs.Checks.{check, empty, coedgeTotal, coedgesWrong, ringWrong, planeWrong, numbersWrong, contentChecks}
+use Rattle.answers.specs.Lists.{anyOf}
+use Rattle.answers.specs.Outcome.{check}
+use Rattle.sheet.specs.Checks.{empty, coedgeTotal, coedgesWrong, ringWrong, planeWrong, numbersWrong, contentChecks}
 use Rattle.sheet.proofs.Reading.{ClearPoint}
 use Rattle.sheet.proofs.BlockOrder.{withRings}
-use Rattle.rings.specs.Bounds.{least, greatest, axisOf, goesAround}
-use Rattle.rings.specs.Unroll.{movedRing}
-use Rattle.rings.specs.Joins.{opens, ringOpen}
-use Rattle.rings.specs.Normalise.{normal}
-use Rattle.rings.proofs.Moved.{moved-clear}
-use Rattle.chart.specs.Frame.{bandOf, periodicOf, spread, framed, frameOf, bandWide, narrow, boxed}
-use Rattle.rings.specs.Grid.{gridPoint}
-use Rattle.grid.specs.Search.{search}
-use Rattle.chart.specs.Chart.{candidate, movedRings, frame, joinsOpen, normalised, chosen, pointCount, answered, phaseWrong, roomWrong, noneClear, frameChecks}
-use Rattle.chart.specs.declared.frame.Frame.{Frame}
-use Rattle.grid.specs.declared.candidate.Candidate.{Candidate}
-use Rattle.sheet.proofs.Permutations.{map-perm, flatten-perm, any-of-perm, all-map, all-weaken, all-flatten}
+use Rattle.points.specs.Bounds.{least, greatest, axisOf, goesAround}
+use Rattle.points.specs.Unroll.{movedRing}
+use Rattle.points.specs.Joins.{opens, ringOpen}
+use Rattle.points.specs.Normalise.{normal}
+use Rattle.points.proofs.Moved.{moved-clear}
+use Rattle.frame.specs.Frame.{bandOf, periodicOf, spread, framed, frameOf, bandWide, narrow, boxed}
+use Rattle.points.specs.Grid.{gridPoint}
+use Rattle.search.specs.Search.{search}
+use Rattle.chart.specs.Chart.{candidate, normalisedBy, normalised, chosen, answered, roomWrong, noneClear, frameChecks}
+use Rattle.frame.specs.Framing.{movedRings, frame, joinsOpen, pointCount, phaseWrong}
+use Rattle.frame.specs.declared.framing.Frame.{Frame}
+use Rattle.search.specs.declared.candidate.Candidate.{Candidate}
+use Rattle.answers.proofs.Permutations.{map-perm, flatten-perm, any-of-perm, all-map, all-weaken, all-flatten}
 use Rattle.chart.proofs.Crossings.{covered-perm}
 use Rattle.chart.proofs.Clearances.{clearance-perm}
 use Rattle.chart.proofs.Outcomes.{laterChecks}
@@ -88,12 +91,13 @@ joins-in : (s : Sheet) (phase : ℕ) → joinsOpen s phase ≡ anyOf (opensIn (f
 unfolding joinsOpen
 joins-in s phase = refl
 
-abbrev pub normalIn : Frame → List Point → List Point
-normalIn f ps = map (normal (f .«least_u») (f .«least_v») (f .«scale_u») (f .«scale_v»)) ps
-
-pub chosen-in : (s : Sheet) (phase : ℕ) → chosen s phase ≡ candidate (frame s phase) (s .sense) (map (normalIn (frame s phase)) (movedRings s phase))
+pub chosen-in : (s : Sheet) (phase : ℕ) → chosen s phase ≡ candidate (frame s phase) (s .sense) (normalisedBy (frame s phase) (movedRings s phase))
 unfolding chosen normalised
 chosen-in s phase = refl
+
+normal-perm : (f : Frame) {rings rings′ : List (List Point)} → List·Permᴰ rings rings′ → List·Permᴰ (normalisedBy f rings) (normalisedBy f rings′)
+unfolding normalisedBy
+normal-perm f d = map-perm (map (normal (f .«least_u») (f .«least_v») (f .«scale_u») (f .«scale_v»))) d
 
 -- ---- a sheet
 
@@ -143,8 +147,8 @@ module _ (s : Sheet) (rings : List (List Coedge)) (d : List·Permᴰ (s .rings) 
     pub same-chosen : chosen s phase ≡ chosen (withRings s rings) phase
     same-chosen =
         chosen-in s phase
-        ∙ ap (λ (f : Frame). candidate f (s .sense) (map (normalIn f) (movedRings s phase))) same-frame
-        ∙ candidate-perm (frame (withRings s rings) phase) (s .sense) (map-perm (normalIn (frame (withRings s rings) phase)) (moved-perm phase))
+        ∙ ap (λ (f : Frame). candidate f (s .sense) (normalisedBy f (movedRings s phase))) same-frame
+        ∙ candidate-perm (frame (withRings s rings) phase) (s .sense) (normal-perm (frame (withRings s rings) phase) (moved-perm phase))
         ∙ sym (chosen-in (withRings s rings) phase)
 
     pub same-frame-checks : frameChecks s phase ≡ frameChecks (withRings s rings) phase

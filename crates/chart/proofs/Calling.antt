@@ -1,190 +1,130 @@
--- The chart call of a sheet that passes the checks down to 9: what the stages settle on the moved rings is the call's own definition, of its numbers and of the output list.
-use mathlib.Core.Bool.{Bool, true, false, cond}
-use mathlib.Core.List.{List, [], _∷_, _++_, map, flatten}
+-- The chart call: a check down to 9 that fails is the answer; behind them the grid point that is found, with the
+-- written points.
+use mathlib.Core.Bool.{Bool, false, true, cond}
+use mathlib.Core.List.{List, [], _∷_, _++_, map, flatten, append-assoc}
 use mathlib.Core.Path.{_≡_, refl, sym, ap, ap₂, _∙_}
 use Prim.Native.Nat.{ℕ, _*_, _≤_, _<_}
 use native.Mathlib.Omega.{arith}
 use lib.Dec.{eqb}
 use lib.Ieee.{Float}
-use lib.ListN.{length, drop, length-map}
-use borrow.Author.Tests.{ltb-false, le-ltb, lt-ltb, ne-eqb}
-use Rattle.sheet.specs.Checks.{Check, check, first, layoutChecks, contentChecks}
-use Rattle.sheet.specs.Content.{Point, Coedge, ringPoints, pairs, flat}
-use Rattle.sheet.specs.Layout.{kind, sense, ringCount, headSize, ring, cut, blocks, sheetOf}
-use Rattle.sheet.specs.Lists.{anyOf, over}
-use Rattle.sheet.proofs.Blocks.{coedge-points}
-use Rattle.sheet.proofs.Checked.{Checked, checked, first-passed, first-refused}
-use Rattle.rings.specs.Joins.{opens, ringOpen}
-use Rattle.rings.specs.Unroll.{movedRing}
-use Rattle.rings.proofs.Flat.{pairs-flat, length-flat}
-use Rattle.rings.proofs.Moved.{length-moved}
-use Rattle.rings.proofs.Opening.{opening}
-use Rattle.sheet.specs.Outcome.{Numbers, refused, settled}
-use Rattle.chart.specs.Answer.{paper}
-use Rattle.chart.specs.Chart.{candidate, answered, noneClear, charted, chartOf, chartChecks, frameChecks, movedRings, frame, joinsOpen, chosen, pointCount, phaseWrong, roomWrong, written, writtenPoint}
-use Rattle.chart.specs.Frame.{frameOf, bandWide, narrow}
-use Rattle.chart.specs.Parts.{ringsFrom, endsFrom}
-use Rattle.chart.specs.Stages.{isPoint, movedBlock, movedBlocks, anyOpen, normalisedBy, stageChecks, foundIn, Passed}
-use Rattle.chart.specs.declared.answer.Answer.{Answer}
-use Rattle.chart.specs.declared.answer.Answer.the-variants.{Refused}
-use Rattle.grid.specs.declared.candidate.Candidate.{Candidate}
-use Rattle.chart.specs.declared.frame.Frame.{Frame}
-use Rattle.chart.proofs.AnyOrder.{chosen-in}
-use Rattle.chart.proofs.Counting.{points-by-coedges, count-of-blocks, moved-numbers}
-use Rattle.chart.proofs.Outcomes.{chart-numbers, chart-points}
-use Rattle.chart.proofs.Parting.{rings-are}
+use lib.ListN.{length, length-map}
+use borrow.Author.Tests.{ltb-false, lt-ltb, le-ltb, ne-eqb, eq-eqb}
+use Rattle.answers.specs.Answers.{paper, isPoint}
+use Rattle.answers.specs.Lists.{over}
+use Rattle.answers.specs.Outcome.{Check, check, first, settled}
+use Rattle.answers.specs.declared.outcomes.Answer.{Answer}
+use Rattle.answers.specs.declared.outcomes.Answer.the-variants.{Refused}
+use Rattle.answers.proofs.FirstCheck.{Numbered, none-fails, first-passed, first-refused, first-here, first-later, append-none}
+use Rattle.answers.proofs.Over.{over-room}
+use Rattle.answers.proofs.Papers.{paper-refused, refused-no-point}
+use Rattle.answers.proofs.Settled.{settled-none, settled-refused}
+use Rattle.sheet.specs.Checks.{layoutChecks, contentChecks}
+use Rattle.sheet.specs.Content.{Point, pairs, flat}
+use Rattle.sheet.specs.Layout.{sheetOf}
+use Rattle.sheet.proofs.Checked.{sheet-numbered}
+use Rattle.points.specs.Written.{written, writtenPoint}
+use Rattle.points.proofs.Flat.{pairs-flat, length-flat}
+use Rattle.frame.specs.Framing.{movedRings, frame, pointCount, phaseWrong}
+use Rattle.frame.specs.Seam.{fitting, phaseChecks}
+use Rattle.frame.specs.declared.framing.Frame.{Frame}
+use Rattle.frame.proofs.LaidOut.{is-fitting}
+use Rattle.frame.proofs.SheetFrame.{numbers-count, points-most, sheet-moved}
+use Rattle.search.specs.declared.candidate.Candidate.{Candidate}
+use Rattle.chart.specs.Chart.{answered, charted, chartOf, chartChecks, frameChecks, chosen, roomWrong}
+use Rattle.chart.specs.Stages.{Passed}
+use Rattle.chart.proofs.Outcomes.{chart-numbers, chart-points, writtenOver}
 
--- ---- the moved rings
+-- ---- the rows down to 8
 
-blocks-moved : (kind phase : ℕ) (bs : List (List ℕ)) → map (λ (r : List Coedge). movedRing kind phase (ringPoints r)) (map ring bs) ≡ map (movedBlock kind phase) bs
-unfolding movedBlock
-blocks-moved kind phase [] = refl
-blocks-moved kind phase (b ∷ bs) = ap (λ (rs : List (List Point)). movedRing kind phase (ringPoints (ring b)) ∷ rs) (blocks-moved kind phase bs)
+pub phase-rows : (s : List ℕ) (phase : ℕ) → phaseChecks s phase ≡ layoutChecks s ++ contentChecks (sheetOf s) ++ check 8 (phaseWrong (sheetOf s) phase) ∷ []
+unfolding phaseChecks
+phase-rows s phase = refl
 
-pub sheet-moved : (s : List ℕ) (phase : ℕ) → movedRings (sheetOf s) phase ≡ movedBlocks (kind s) phase (ringCount s) (drop (headSize (kind s)) s)
-unfolding movedRings sheetOf movedBlocks blocks
-sheet-moved s phase = blocks-moved (kind s) phase (cut (ringCount s) (drop (headSize (kind s)) s))
+pub phase-numbered : (s : List ℕ) (phase : ℕ) → Numbered (phaseChecks s phase)
+phase-numbered s phase = unfold phaseChecks layoutChecks contentChecks in omega arith
 
--- every coedge has seventeen points, so which points are their coedge's first is told by counting
-rings-open : (f : Frame) (kind phase : ℕ) (bs : List (List ℕ))
-    → anyOf (λ (r : List Coedge). ringOpen (f .periodic) (f .«scale_u») (f .«scale_v») (opens r) (movedRing kind phase (ringPoints r))) (map ring bs)
-    ≡ anyOpen 16 f (map (movedBlock kind phase) bs)
-unfolding anyOf anyOpen movedBlock
-rings-open f kind phase [] = refl
-rings-open f kind phase (b ∷ bs) =
-    let ps = movedRing kind phase (ringPoints (ring b)) in
-    rw (opening 16 (ring b) ps (coedge-points b) (length-moved kind phase (ringPoints (ring b))), rings-open f kind phase bs)
+-- what passes them
+pub reads-of : (s : List ℕ) (phase : ℕ) → first (phaseChecks s phase) ≡ 0 → first (layoutChecks s ++ contentChecks (sheetOf s)) ≡ 0
+unfolding phaseChecks
+reads-of s phase e = append-none (layoutChecks s ++ contentChecks (sheetOf s)) (check 8 (phaseWrong (sheetOf s) phase) ∷ []) (sheet-numbered s) e .0
 
-module _ (s : List ℕ) (phase : ℕ) where
-  abbrev rings : List (List Point)
-  rings = movedBlocks (kind s) phase (ringCount s) (drop (headSize (kind s)) s)
+pub phase-of : (s : List ℕ) (phase : ℕ) → first (phaseChecks s phase) ≡ 0 → phaseWrong (sheetOf s) phase ≡ false
+unfolding phaseChecks
+phase-of s phase e =
+    let row = check 8 (phaseWrong (sheetOf s) phase) ∷ [] in
+    none-fails row (omega arith) (append-none (layoutChecks s ++ contentChecks (sheetOf s)) row (sheet-numbered s) e .1) .0
 
-  pub sheet-frame : frame (sheetOf s) phase ≡ frameOf (kind s) rings
-  unfolding frame sheetOf
-  sheet-frame = ap (frameOf (kind s)) (sheet-moved s phase)
-
-  sheet-open : joinsOpen (sheetOf s) phase ≡ anyOpen 16 (frameOf (kind s) rings) rings
-  unfolding joinsOpen sheetOf blocks movedBlocks
-  sheet-open =
-      ap (λ (f : Frame). anyOf (λ (r : List Coedge). ringOpen (f .periodic) (f .«scale_u») (f .«scale_v») (opens r) (movedRing (kind s) phase (ringPoints r))) (sheetOf s .rings)) sheet-frame
-      ∙ rings-open (frameOf (kind s) rings) (kind s) phase (cut (ringCount s) (drop (headSize (kind s)) s))
-
-  sheet-chosen : chosen (sheetOf s) phase ≡ candidate (frameOf (kind s) rings) (sense s) (normalisedBy (frameOf (kind s) rings) rings)
-  unfolding normalisedBy sheetOf
-  sheet-chosen = chosen-in (sheetOf s) phase ∙ ap₂ (λ (f : Frame) (rs : List (List Point)). candidate f (sense s) (normalisedBy f rs)) sheet-frame (sheet-moved s phase)
-
-  -- checks 11 to 14 are the stages'
-  sheet-checks : frameChecks (sheetOf s) phase ≡ stageChecks (sense s) (frameOf (kind s) rings) rings
-  unfolding frameChecks stageChecks
-  sheet-checks = λ i. check 11 (bandWide (sheet-frame i)) ∷ check 12 (narrow (sheet-frame i)) ∷ check 13 (sheet-open i) ∷ check 14 (noneClear (sheet-chosen i)) ∷ []
-
--- ---- a call that a check down to 9 refuses
+-- ---- a call that a check refuses
 
 module _ (s : List ℕ) (phase : ℕ) (out : List Float) where
-  later : List Check
-  later = check 8 (phaseWrong (sheetOf s) phase) ∷ check 9 (roomWrong (sheetOf s) (length out)) ∷ frameChecks (sheetOf s) phase
+  -- the answer is the call's, and it is one just where its status is 0
+  abbrev pub Called : Answer → List Float → Type 0
+  Called r after = (charted (paper r) after ≡ chartOf s phase out) × (isPoint r ≡ eqb (paper r .status) 0)
 
-  checks-are : chartChecks s phase (length out) ≡ (layoutChecks s ++ contentChecks (sheetOf s)) ++ later
-  unfolding later chartChecks layoutChecks contentChecks
-  checks-are = refl
-
-  -- the first check that fails is the answer
-  refused-by : (n : ℕ) → first (chartChecks s phase (length out)) ≡ n → (n ≡ 0 → ⊥) → charted (paper (Refused n)) out ≡ chartOf s phase out
-  unfolding paper
+  refused-by : (n : ℕ) → first (chartChecks s phase (length out)) ≡ n → (n ≡ 0 → ⊥) → Called (Refused n) out
   refused-by n e h =
-      let none = ap (λ (r : ℕ). eqb r 0) e ∙ ne-eqb n 0 h in
-      ap₂ charted
-      (sym (chart-numbers s phase out ∙ ap₂ (λ (b : Bool) (r : ℕ). cond b (answered (frame (sheetOf s) phase) phase (chosen (sheetOf s) phase)) (refused r)) none e))
-      (sym (chart-points s phase out ∙ ap (λ (b : Bool). cond b (over (written phase (movedRings (sheetOf s) phase)) out) out) none))
+      let answer = answered (frame (sheetOf s) phase) phase (chosen (sheetOf s) phase) in (
+        ap₂ charted
+            (paper-refused n ∙ sym (chart-numbers s phase out ∙ ap (λ (r : ℕ). settled r answer) e ∙ settled-refused n answer h))
+            (sym (chart-points s phase out ∙ ap (λ (b : Bool). cond b (writtenOver s phase out (sheetOf s)) out) (ap (λ (r : ℕ). eqb r 0) e ∙ ne-eqb n 0 h))),
+        refused-no-point n h,
+      )
 
-  pub call-unread : (n : ℕ) → n ≡ first (layoutChecks s ++ contentChecks (sheetOf s)) → (n ≡ 0 → ⊥) → charted (paper (Refused n)) out ≡ chartOf s phase out
-  call-unread n e h = refused-by n (ap first checks-are ∙ first-refused (layoutChecks s ++ contentChecks (sheetOf s)) later (λ z. h (e ∙ z)) ∙ sym e) h
+  -- the rows behind 8
+  abbrev later : List Check
+  later = check 9 (roomWrong (sheetOf s) (length out)) ∷ frameChecks (sheetOf s) phase
 
-  module _ (reads : first (layoutChecks s ++ contentChecks (sheetOf s)) ≡ 0) where
-    past-reading : first (chartChecks s phase (length out)) ≡ first later
-    past-reading = ap first checks-are ∙ first-passed (layoutChecks s ++ contentChecks (sheetOf s)) later (unfold layoutChecks contentChecks in omega arith) reads
+  checks-are : chartChecks s phase (length out) ≡ phaseChecks s phase ++ later
+  unfolding chartChecks phaseChecks
+  checks-are = sym (append-assoc (layoutChecks s ++ contentChecks (sheetOf s)) (check 8 (phaseWrong (sheetOf s) phase) ∷ []) later)
 
-    pub call-wrong-phase : phaseWrong (sheetOf s) phase ≡ true → charted (paper (Refused 8)) out ≡ chartOf s phase out
-    unfolding later first
-    call-wrong-phase e = refused-by 8 (past-reading ∙ rw e) (λ z. omega (arith, z))
+  pub call-unread : (n : ℕ) → n ≡ first (phaseChecks s phase) → (n ≡ 0 → ⊥) → Called (Refused n) out
+  call-unread n e h = refused-by n (ap first checks-are ∙ first-refused (phaseChecks s phase) later (λ z. h (e ∙ z)) ∙ sym e) h
 
-    pub call-no-room : phaseWrong (sheetOf s) phase ≡ false → length out < 2 * pointCount (sheetOf s) → charted (paper (Refused 9)) out ≡ chartOf s phase out
-    unfolding later first roomWrong
-    call-no-room e h = refused-by 9 (past-reading ∙ rw (e, lt-ltb _ _ h)) (λ z. omega (arith, z))
+  module _ (passes : first (phaseChecks s phase) ≡ 0) where
+    past-phase : first (chartChecks s phase (length out)) ≡ first later
+    past-phase = ap first checks-are ∙ first-passed (phaseChecks s phase) later (phase-numbered s phase) passes
+
+    pub call-no-room : length out < 2 * pointCount (sheetOf s) → Called (Refused 9) out
+    unfolding roomWrong
+    call-no-room h = refused-by 9 (past-phase ∙ first-here (check 9 (roomWrong (sheetOf s) (length out))) (frameChecks (sheetOf s) phase) (lt-ltb _ _ h)) (λ z. omega (arith, z))
+
+    pub call-passes : 2 * pointCount (sheetOf s) ≤ length out → Passed s phase out
+    unfolding roomWrong
+    call-passes h = record { passes = passes; roomRight = le-ltb _ _ h }
 
 -- ---- a sheet that reads
 
-pub points-most : (s : List ℕ) → first (layoutChecks s ++ contentChecks (sheetOf s)) ≡ 0 → 2 * pointCount (sheetOf s) ≤ 4352
-unfolding sheetOf blocks
-points-most s reads = omega (arith, count-of-blocks s, points-by-coedges (cut (ringCount s) (drop (headSize (kind s)) s)), checked s reads .coedgesMost)
+-- lists for just its points and rings
+pub fits-of : (s : List ℕ) (n m : ℕ) → first (layoutChecks s ++ contentChecks (sheetOf s)) ≡ 0 → n ≡ 2 * pointCount (sheetOf s) → m ≡ length (sheetOf s .rings) → fitting (sheetOf s) n m ≡ true
+fits-of s n m reads p q = is-fitting (sheetOf s) n m p q (omega (arith, points-most s reads))
 
 -- ---- a call that passes the checks down to 9
 
 module _ {s : List ℕ} {phase : ℕ} {out : List Float} (p : Passed s phase out) where
-  abbrev moved : List (List Point)
-  moved = movedBlocks (kind s) phase (ringCount s) (drop (headSize (kind s)) s)
+  left : first (chartChecks s phase (length out)) ≡ first (frameChecks (sheetOf s) phase)
+  left = past-phase s phase out (p .passes) ∙ first-later (check 9 (roomWrong (sheetOf s) (length out))) (frameChecks (sheetOf s) phase) (p .roomRight)
 
-  pub good : Checked s
-  good = checked s (p .reads)
+  pub call-refused : (n : ℕ) → n ≡ first (frameChecks (sheetOf s) phase) → (n ≡ 0 → ⊥) → Called s phase out (Refused n) out
+  call-refused n e h = refused-by s phase out n (left ∙ sym e) h
 
-  pub numbers-count : length (flat (flatten moved)) ≡ 2 * pointCount (sheetOf s)
-  unfolding movedBlocks
-  numbers-count = moved-numbers (kind s) phase (cut (ringCount s) (drop (headSize (kind s)) s)) ∙ ap (λ (n : ℕ). 2 * n) (sym (count-of-blocks s))
+  module _ (passes : first (frameChecks (sheetOf s) phase) ≡ 0) where
+    none : first (chartChecks s phase (length out)) ≡ 0
+    none = left ∙ passes
 
-  pub numbers-most : 2 * pointCount (sheetOf s) ≤ 4352
-  numbers-most = points-most s (p .reads)
+    -- the points that are written
+    written-is : {xs : List Float} → xs ≡ flat (flatten (movedRings (sheetOf s) phase)) → over (flat (map (writtenPoint phase) (pairs xs))) out ≡ writtenOver s phase out (sheetOf s)
+    unfolding written roomWrong
+    written-is {xs} x =
+        let rings = movedRings (sheetOf s) phase in
+        let w = flat (map (writtenPoint phase) (flatten rings)) in
+        let points : flat (map (writtenPoint phase) (pairs xs)) ≡ w = ap (λ (ps : List Point). flat (map (writtenPoint phase) ps)) (ap pairs x ∙ pairs-flat (flatten rings)) in
+        let long : length w ≡ 2 * pointCount (sheetOf s) = length-flat (map (writtenPoint phase) (flatten rings)) ∙ ap (λ (n : ℕ). 2 * n) (length-map (flatten rings) (writtenPoint phase)) ∙ sym (length-flat (flatten rings)) ∙ ap (λ (rs : List (List Point)). length (flat (flatten rs))) (sheet-moved s phase) ∙ numbers-count s phase in
+        ap (λ (ys : List Float). over ys out) points ∙ over-room w out (omega (arith, long, ltb-false (length out) (2 * pointCount (sheetOf s)) (p .roomRight)))
 
-  pub numbers-fit : 2 * pointCount (sheetOf s) ≤ length out
-  unfolding roomWrong
-  numbers-fit = ltb-false (length out) (2 * pointCount (sheetOf s)) (p .roomRight)
-
-  later-is : first (later s phase out) ≡ first (frameChecks (sheetOf s) phase)
-  unfolding later first
-  later-is = rw (p .phaseRight, p .roomRight)
-
-  -- the checks 11 to 14 are left
-  pub refusal-left : first (chartChecks s phase (length out)) ≡ first (frameChecks (sheetOf s) phase)
-  refusal-left = past-reading s phase out (p .reads) ∙ later-is
-
-  refusal-is : first (chartChecks s phase (length out)) ≡ first (stageChecks (sense s) (frameOf (kind s) moved) moved)
-  refusal-is = refusal-left ∙ ap first (sheet-checks s phase)
-
-  -- the numbers that the stages settle are the call's
-  numbers-are : foundIn (sense s) phase (frameOf (kind s) moved) moved ≡ chartOf s phase out .numbers
-  unfolding foundIn settled
-  numbers-are = sym
-      (chart-numbers s phase out
-      ∙ ap₂ (λ (r : ℕ) (n : Numbers). cond (eqb r 0) n (refused r)) refusal-is (ap₂ (λ (f : Frame) (b : Candidate). answered f phase b) (sheet-frame s phase) (sheet-chosen s phase)))
-
-  list-is : (b : Bool) → eqb (first (stageChecks (sense s) (frameOf (kind s) moved) moved)) 0 ≡ b → chartOf s phase out .points ≡ cond b (over (written phase moved) out) out
-  list-is b e =
-      chart-points s phase out
-      ∙ ap₂ (λ (c : Bool) (rs : List (List Point)). cond c (over (written phase rs) out) out) (ap (λ (r : ℕ). eqb r 0) refusal-is ∙ e) (sheet-moved s phase)
-
-  -- what `found` says of the moved rings, however their kind and sense were read
-  module _ {k n : ℕ} {xs : List Float} {ends : List ℕ} (r : Answer) (kinds : k ≡ kind s) (senses : n ≡ sense s) (x : xs ≡ flat (flatten moved)) (e : ends ≡ endsFrom 0 moved)
-      (numbers : paper r ≡ foundIn n phase (frameOf k (ringsFrom 0 ends xs)) (ringsFrom 0 ends xs))
-      (settles : isPoint r ≡ eqb (first (stageChecks n (frameOf k (ringsFrom 0 ends xs)) (ringsFrom 0 ends xs))) 0) where
-    rings-back : ringsFrom 0 ends xs ≡ moved
-    rings-back = ap₂ (ringsFrom 0) e x ∙ rings-are moved
-
-    paper-is : paper r ≡ chartOf s phase out .numbers
-    paper-is = rw (kinds, senses, rings-back) at numbers ∙ numbers-are
-
-    settled-is : isPoint r ≡ eqb (first (stageChecks (sense s) (frameOf (kind s) moved) moved)) 0
-    settled-is = rw (kinds, senses, rings-back) at settles
-
-    pub call-refused : isPoint r ≡ false → charted (paper r) out ≡ chartOf s phase out
-    call-refused h = ap₂ charted paper-is (sym (list-is false (sym settled-is ∙ h)))
-
-    list-written : flat (map (writtenPoint phase) (pairs xs)) ++ drop (length xs) out ≡ over (written phase moved) out
-    unfolding written over
-    list-written =
-        let w = flat (map (writtenPoint phase) (flatten moved)) in
-        let points : pairs xs ≡ flatten moved = ap pairs x ∙ pairs-flat (flatten moved) in
-        let long : length w ≡ length xs = length-flat (map (writtenPoint phase) (flatten moved)) ∙ ap (λ (m : ℕ). 2 * m) (length-map (flatten moved) (writtenPoint phase)) ∙ sym (length-flat (flatten moved)) ∙ ap length (sym x) in
-        let fits : length w ≤ length out = omega (arith, long, ap length x, numbers-count, numbers-fit) in
-        rw (points, le-ltb _ _ fits, long)
-
-    pub call-answered : isPoint r ≡ true → charted (paper r) (flat (map (writtenPoint phase) (pairs xs)) ++ drop (length xs) out) ≡ chartOf s phase out
-    call-answered h = ap₂ charted paper-is (list-written ∙ sym (list-is true (sym settled-is ∙ h)))
+    pub call-answered : {xs after : List Float} (r : Answer) {f : Frame} {c : Candidate} → xs ≡ flat (flatten (movedRings (sheetOf s) phase)) → after ≡ over (flat (map (writtenPoint phase) (pairs xs))) out
+        → f ≡ frame (sheetOf s) phase → c ≡ chosen (sheetOf s) phase → paper r ≡ answered f phase c → charted (paper r) after ≡ chartOf s phase out
+    call-answered r x a e d q =
+        ap₂ charted
+        (q ∙ ap₂ (λ (f : Frame) (c : Candidate). answered f phase c) e d ∙ sym (chart-numbers s phase out ∙ settled-none (first (chartChecks s phase (length out))) (answered (frame (sheetOf s) phase) phase (chosen (sheetOf s) phase)) none))
+        (a ∙ written-is x ∙ sym (chart-points s phase out ∙ ap (λ (b : Bool). cond b (writtenOver s phase out (sheetOf s)) out) (eq-eqb _ 0 none)))

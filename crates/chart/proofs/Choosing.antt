@@ -1,8 +1,9 @@
--- From the rings to what the search takes: the segments of all rings, laid one ring behind the other in one list, and a mark for each covered grid point; and that the search from both chooses the candidate.
+-- From the rings to what the search takes: the segments of all rings, laid one ring behind the other in one list, and a
+-- mark for each covered grid point; and that the search from both chooses the candidate.
 use mathlib.Core.Path.{_≡_, refl, sym, ap, ap₂, fun-ext, _∙_}
 use mathlib.Core.Bool.{Bool, false}
 use mathlib.Core.List.{List, [], _∷_, _++_, map, flatMap, append-nil, append-assoc, foldl}
-use Prim.Native.Nat.{ℕ, _+_, _-_, _*_, _/_, _%_, _<_, _≤_}
+use Prim.Native.Nat.{ℕ, _+_, _-_, _*_, _/_, _<_, _≤_}
 use native.Mathlib.Omega.{arith}
 use borrow.Author.Tests.{le-ltb}
 use lib.IntN.{ℤ, pos}
@@ -12,25 +13,24 @@ use lib.Seq.{length-take-le, take-at, take-all, ext-getD}
 use Rattle.leaves.specs.Hypot.{hypotOfKey}
 use Rattle.leaves.proofs.Hypotenuses.{inf-key, hypot-of-inf}
 use Rattle.sheet.specs.Content.{Point, pairs, flat}
-use Rattle.sheet.specs.Lists.{over}
-use Rattle.rings.specs.Clearance.{nearer, nearerKey}
-use Rattle.rings.specs.Grid.{part, gridPoint, gridOf}
-use Rattle.rings.specs.Segments.{Segment, segments}
-use Rattle.rings.proofs.Flat.{flat-append}
-use Rattle.rings.proofs.GridOrder.{grid-length, grid-nth, grid-place}
-use Rattle.rings.proofs.Nearest.{nearer-by-key}
-use Rattle.grid.specs.Chosen.{coveredAt, clearanceAt, chosenAmong}
-use Rattle.grid.specs.Nearest.{leastKey}
-use Rattle.grid.specs.Search.{search}
-use Rattle.grid.specs.Segments.{endsOf, segmentsIn, laid, laidRings, copiesAt}
-use Rattle.grid.proofs.ByList.{nearest-by-list}
-use Rattle.grid.proofs.Laying.{count-numbers}
-use Rattle.grid.proofs.Lists.{ends-append, segments-flat}
-use Rattle.grid.proofs.Visits.{search-same}
+use Rattle.answers.specs.Lists.{over}
+use Rattle.clearance.specs.Clearance.{nearer, nearerKey}
+use Rattle.points.specs.Grid.{gridPoint, gridOf}
+use Rattle.points.specs.Segments.{segments}
+use Rattle.points.proofs.Flat.{flat-append}
+use Rattle.points.proofs.GridOrder.{grid-length, grid-nth, grid-place}
+use Rattle.clearance.proofs.ByKeys.{nearer-by-key}
+use Rattle.search.specs.Chosen.{coveredAt, clearanceAt, chosenAmong}
+use Rattle.search.specs.Search.{search}
+use Rattle.clearance.specs.SegmentLists.{endsOf, segmentsIn, laid, laidRings}
+use Rattle.clearance.proofs.ByList.{nearest-by-list}
+use Rattle.clearance.proofs.Laying.{count-numbers}
+use Rattle.clearance.proofs.SegmentsRead.{ends-append, segments-flat}
+use Rattle.search.proofs.Visits.{search-same}
 use Rattle.chart.specs.Chart.{clearance, coveredBy, covered, crossings, candidate}
-use Rattle.chart.specs.Parts.{ringsFrom}
-use Rattle.chart.specs.declared.frame.Frame.{Frame}
-use Rattle.chart.proofs.Rings.{between, rings-step, rings-end}
+use Rattle.frame.specs.Parts.{ringsFrom}
+use Rattle.frame.specs.declared.framing.Frame.{Frame}
+use Rattle.frame.proofs.Rings.{between, rings-step, rings-end}
 
 -- ---- the segments of all rings
 

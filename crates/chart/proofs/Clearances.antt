@@ -1,4 +1,5 @@
--- Rule 8's clearance, whatever the rings: a value of the format, no NaN, and the same for every order of the rings, since no distance is -0.
+-- Rule 8's clearance, whatever the rings: a value of the format, no NaN, and the same for every order of the rings,
+-- since no distance is -0.
 use mathlib.Core.Path.{_≡_}
 use mathlib.Core.Bool.{false, not}
 use mathlib.Core.List.{List, List·Permᴰ}
@@ -6,11 +7,11 @@ use lib.Dec.{T}
 use lib.Ieee.{inf, binary64, fits, isNan}
 use lib.Ieee.Fits.{inf-fits}
 use Rattle.sheet.specs.Content.{Point}
-use Rattle.rings.specs.Clearance.{distance}
-use Rattle.rings.proofs.LeastDistance.{rings-held, rings-number, rings-perm}
-use Rattle.rings.proofs.Nearest.{distance-clear}
+use Rattle.clearance.specs.Clearance.{distance}
+use Rattle.clearance.proofs.LeastDistance.{rings-held, rings-number, rings-perm}
+use Rattle.clearance.proofs.ByKeys.{distance-clear}
 use Rattle.chart.specs.Chart.{clearance}
-use Rattle.chart.specs.declared.frame.Frame.{Frame}
+use Rattle.frame.specs.declared.framing.Frame.{Frame}
 
 inf-number : T (not (isNan (inf false)))
 unfolding isNan

@@ -1,5 +1,7 @@
--- The search, over any coverage of the grid points and any clearance of them that is a value of the format and no NaN: it finds the clearest covered point, the first of those that are as clear, and counts
--- the covered ones. Where the walk stands, the best so far has at least the clearance of every covered point that it has come by, and is the first of them to have it; with none above 0 it is the start.
+-- The search, over any coverage of the grid points and any clearance of them that is a value of the format and no NaN:
+-- it finds the clearest covered point, the first of those that are as clear, and counts
+-- the covered ones. Where the walk stands, the best so far has at least the clearance of every covered point that it
+-- has come by, and is the first of them to have it; with none above 0 it is the start.
 use mathlib.Core.Path.{_≡_, refl, sym, ap, _∙_, subst}
 use mathlib.Core.Logic.{_⊎_, inl, inr, _↔_}
 use mathlib.Core.Bool.{Bool, true, false, not, cond}
@@ -13,11 +15,11 @@ use lib.Ieee.{Float, binary64, ofBits, fits, isNan, lt, le}
 use Rattle.leaves.specs.Constants.{zero as plusZero, clearanceLimit}
 use Rattle.leaves.proofs.ConstantBits.{clearanceLimit-fits, clearanceLimit-positive}
 use Rattle.leaves.proofs.Order.{le-self, le→not-lt, le-lt-trans, lt-le-trans, lt→le, lt-irrefl, not-lt→le}
-use Rattle.rings.specs.Grid.{upFrom, lines, part, gridOf}
-use Rattle.grid.specs.Search.{start, better, counted, visit, column, search}
+use Rattle.points.specs.Grid.{upFrom, lines, part, gridOf}
+use Rattle.search.specs.Search.{start, better, counted, visit, column, search}
 use Rattle.chart.specs.Demand.{OnGrid, After, trues, coveredCount, NoneServes, Clearest, candidateAt}
-use Rattle.grid.specs.declared.candidate.Candidate.{Candidate}
-use Rattle.grid.proofs.Visits.{visit-is}
+use Rattle.search.specs.declared.candidate.Candidate.{Candidate}
+use Rattle.search.proofs.Visits.{visit-is}
 
 -- ---- a walk over n numbers from i on
 

@@ -1,4 +1,5 @@
--- Rule 7's crossings are a sum over the rings: those of two groups add, and the order of the rings changes nothing, nor what is covered.
+-- Rule 7's crossings are a sum over the rings: those of two groups add, and the order of the rings changes nothing, nor
+-- what is covered.
 use mathlib.Core.Path.{_≡_, refl, sym, ap, _∙_}
 use mathlib.Core.Bool.{Bool, true, false, not, cond}
 use mathlib.Core.List.{List, [], _∷_, foldl, List·Permᴰ}
@@ -6,10 +7,10 @@ use Prim.Native.Nat.{ℕ, suc}
 use lib.IntN.{ℤ, pos, _+ℤ_, +ℤ-assoc, +ℤ-comm}
 use Rattle.leaves.proofs.Folds.{fold-perm-always}
 use Rattle.sheet.specs.Content.{Point}
-use Rattle.rings.specs.Coverage.{crossing}
+use Rattle.coverage.specs.Coverage.{crossing}
 use Rattle.chart.specs.Chart.{coveredBy, covered, crossings}
 use Rattle.chart.specs.Demand.{picked, others}
-use Rattle.chart.specs.declared.frame.Frame.{Frame}
+use Rattle.frame.specs.declared.framing.Frame.{Frame}
 
 -- ---- sums
 

@@ -1,5 +1,7 @@
--- "Suppose a sheet passes every check through the joins. Then the answer is refusal 14 exactly when none of its 31 × 31 grid points is covered with computed clearance above 0.01. Otherwise the chosen point is
--- covered. Every other covered grid point has at most its clearance, and those with the same clearance come after it, u before v. An answer is this point's, with the coverage, clearance and count of document
+-- "Suppose a sheet passes every check through the joins. Then the answer is refusal 14 exactly when none of its 31 × 31
+-- grid points is covered with computed clearance above 0.01. Otherwise the chosen point is
+-- covered. Every other covered grid point has at most its clearance, and those with the same clearance come after it, u
+-- before v. An answer is this point's, with the coverage, clearance and count of document
 -- 01's rules 7 to 9."
 use mathlib.Core.Path.{_≡_, refl, sym, ap, _∙_}
 use mathlib.Core.Logic.{_↔_, _⊎_, ⊎-map}
@@ -13,18 +15,19 @@ use lib.Ieee.{Float, binary64, fits, isNan, lt}
 use Rattle.leaves.specs.Constants.{clearanceLimit}
 use Rattle.sheet.specs.Content.{Sheet}
 use Rattle.sheet.specs.Layout.{sheetOf}
-use Rattle.sheet.specs.Checks.{Check, check, first, layoutChecks, contentChecks}
-use Rattle.sheet.proofs.Checked.{Beyond, Numbered, first-passed}
-use Rattle.sheet.specs.Outcome.{Numbers, refused, settled}
-use Rattle.rings.specs.Grid.{gridPoint}
-use Rattle.grid.specs.Search.{search}
-use Rattle.chart.specs.Chart.{candidate, frame, normalised, chosen, answered, noneClear, frameChecks, chartChecks, chartOf}
-use Rattle.chart.specs.Demand.{Clearest, NoneServes, Passes, candidateAt, clearAt, coverAt, downTo}
-use Rattle.grid.specs.declared.candidate.Candidate.{Candidate}
+use Rattle.answers.specs.Outcome.{Check, check, first, Numbers, refused, settled}
+use Rattle.sheet.specs.Checks.{layoutChecks, contentChecks}
+use Rattle.answers.proofs.FirstCheck.{Beyond, Numbered, first-passed}
+use Rattle.points.specs.Grid.{gridPoint}
+use Rattle.search.specs.Search.{search}
+use Rattle.chart.specs.Chart.{candidate, normalised, chosen, answered, noneClear, frameChecks, chartChecks, chartOf}
+use Rattle.frame.specs.Framing.{frame}
+use Rattle.chart.specs.Demand.{Clearest, NoneServes, Passes, Rule, candidateAt, clearAt, coverAt, downTo}
+use Rattle.search.specs.declared.candidate.Candidate.{Candidate}
 use Rattle.chart.proofs.Clearances.{clearance-held, clearance-number}
 use Rattle.chart.proofs.Clearest.{chosen-is, none-serves}
 use Rattle.chart.proofs.Outcomes.{Parted, chart-numbers, chart-status, down-numbered, first-above, first-passes}
-use Rattle.sheet.proofs.Settled.{settled-status}
+use Rattle.answers.proofs.Settled.{settled-status}
 
 -- ---- the search over a sheet's content, whatever the call
 
@@ -49,7 +52,8 @@ module _ (s : Sheet) (phase : ℕ) where
       → (i : ℕ) × (j : ℕ) × Clearest (coverAt s phase) (clearAt s phase) i j × (chosen s phase ≡ candidateAt (coverAt s phase) (clearAt s phase) i j)
   sheet-chosen = rw chosen-search (chosen-is (coverAt s phase) (clearAt s phase) clear-held clear-number)
 
--- ---- the grid rule of every call: a table in which row 14 stands behind the rows down to 13, and a call's own rows behind it, and an answer that is the chosen grid point's
+-- ---- the grid rule of every call: a table in which row 14 stands behind the rows down to 13, and a call's own rows
+-- behind it, and an answer that is the chosen grid point's
 
 -- no row below n has the number n
 not-below : (n : ℕ) (cs : List Check) → 0 < n → Beyond n cs → first cs ≡ n → ⊥
@@ -105,7 +109,8 @@ module _ (s : Sheet) (phase : ℕ) (cs : List Check) (below : Candidate → List
       (i, j, c, call-is true e ∙ ap (λ (z : Candidate). settled (first (below z)) (answer z)) w)
   chooses false e some = absurd (some (sheet-none s phase .1 e))
 
-  -- 14 exactly where no grid point serves; otherwise what the rows below 14 settle of the clearest covered grid point's answer
+  -- 14 exactly where no grid point serves; otherwise what the rows below 14 settle of the clearest covered grid point's
+  -- answer
   pub grid-rule : ((settled (first cs) (answer (chosen s phase)) .status ≡ 14) ↔ NoneServes (coverAt s phase) (clearAt s phase))
       × ((NoneServes (coverAt s phase) (clearAt s phase) → ⊥)
       → (i : ℕ) × (j : ℕ) × Clearest (coverAt s phase) (clearAt s phase) i j
@@ -129,12 +134,9 @@ module _ (s : List ℕ) (phase room : ℕ) where
   }
 
 module _ (s : List ℕ) (phase : ℕ) (out : List Float) where
-  -- refusal 14 exactly where no grid point serves; otherwise status 0, with the clearest covered grid point by the chart's formula, its clearance and the number of covered grid points
-  pub chart-grid-rule : Passes 13 (chartChecks s phase (length out))
-      → ((chartOf s phase out .numbers .status ≡ 14) ↔ NoneServes (coverAt (sheetOf s) phase) (clearAt (sheetOf s) phase))
-      × ((NoneServes (coverAt (sheetOf s) phase) (clearAt (sheetOf s) phase) → ⊥)
-      → (i : ℕ) × (j : ℕ) × Clearest (coverAt (sheetOf s) phase) (clearAt (sheetOf s) phase) i j
-      × (chartOf s phase out .numbers ≡ answered (frame (sheetOf s) phase) phase (candidateAt (coverAt (sheetOf s) phase) (clearAt (sheetOf s) phase) i j)))
+  -- refusal 14 exactly where no grid point serves; otherwise status 0, with the clearest covered grid point by the
+  -- chart's formula, its clearance and the number of covered grid points
+  pub chart-grid-rule : Passes 13 (chartChecks s phase (length out)) → Rule (sheetOf s) phase (chartOf s phase out .numbers) (answered (frame (sheetOf s) phase) phase)
   unfolding first settled
   chart-grid-rule passes =
       rw (chart-numbers s phase out) (grid-rule (sheetOf s) phase (chartChecks s phase (length out)) (λ (c : Candidate). []) (answered (frame (sheetOf s) phase) phase) (chart-call s phase (length out)) passes)

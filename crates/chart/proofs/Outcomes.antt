@@ -1,4 +1,5 @@
--- The outcome by the refusal's number, and the tables: the chart's, the rows of the layout, then those of what the bytes say; and what every table has in common, the rows down to a number, and those behind.
+-- The chart's outcome, and the tables: the chart's, the rows of the layout, then those of what the bytes say; and what
+-- every table has in common, the rows down to a number, and those behind.
 use mathlib.Core.Path.{_≡_, refl, sym, ap, _∙_}
 use mathlib.Core.Logic.{_⊎_, ⊎-elim}
 use mathlib.Core.Bool.{Bool, true, false, cond}
@@ -7,37 +8,21 @@ use Prim.Native.Nat.{ℕ, _<_}
 use native.Mathlib.Decide.{ℕ-discrete}
 use native.Mathlib.Omega.{arith}
 use lib.Dec.{eqb, leb}
-use lib.ListN.{length}
+use lib.ListN.{length, drop}
 use borrow.Author.Tests.{le-leb, lt-leb, leb-true}
 use lib.Ieee.{Float}
 use Rattle.sheet.specs.Content.{Sheet}
-use Rattle.sheet.specs.Lists.{over}
 use Rattle.sheet.specs.Layout.{sheetOf}
-use Rattle.sheet.specs.Checks.{Check, check, first, layoutChecks, contentChecks}
-use Rattle.sheet.proofs.Checked.{Beyond, Numbered, Within, first-most, first-refused}
-use Rattle.sheet.specs.Outcome.{Numbers, refused, settled}
-use Rattle.chart.specs.Chart.{Charted, charted, answered, chosen, frame, movedRings, outcome, written, phaseWrong, roomWrong, noneClear, frameChecks, chartChecks, chartOf}
+use Rattle.answers.specs.Outcome.{Check, check, first, Numbers, settled}
+use Rattle.sheet.specs.Checks.{layoutChecks, contentChecks}
+use Rattle.answers.proofs.FirstCheck.{Beyond, Numbered, Within, first-most, first-refused}
+use Rattle.chart.specs.Chart.{answered, chosen, outcome, roomWrong, noneClear, frameChecks, chartChecks, chartOf}
+use Rattle.frame.specs.Framing.{frame, movedRings, phaseWrong}
+use Rattle.points.specs.Written.{written}
 use Rattle.chart.specs.Demand.{Passes, downTo}
-use Rattle.sheet.proofs.Settled.{settled-status}
+use Rattle.answers.proofs.Settled.{settled-status}
 
--- ---- the outcome
-
-module _ (refusal : ℕ) (s : Sheet) (phase : ℕ) (out : List Float) where
-  pub outcome-numbers : outcome refusal s phase out .numbers ≡ cond (eqb refusal 0) (answered (frame s phase) phase (chosen s phase)) (refused refusal)
-  unfolding outcome
-  outcome-numbers = by (eqb refusal 0) (answered (frame s phase) phase (chosen s phase)) (over (written phase (movedRings s phase)) out)
-    where
-      by : (b : Bool) (n : Numbers) (xs : List Float) → cond b (charted n xs) (charted (refused refusal) out) .numbers ≡ cond b n (refused refusal)
-      by true n xs = refl
-      by false n xs = refl
-
-  pub outcome-points : outcome refusal s phase out .points ≡ cond (eqb refusal 0) (over (written phase (movedRings s phase)) out) out
-  unfolding outcome
-  outcome-points = by (eqb refusal 0) (answered (frame s phase) phase (chosen s phase)) (over (written phase (movedRings s phase)) out)
-    where
-      by : (b : Bool) (n : Numbers) (xs : List Float) → cond b (charted n xs) (charted (refused refusal) out) .points ≡ cond b xs out
-      by true n xs = refl
-      by false n xs = refl
+-- ---- the answer
 
 pub answered-status : (s : Sheet) (phase : ℕ) → answered (frame s phase) phase (chosen s phase) .status ≡ 0
 unfolding answered
@@ -120,20 +105,20 @@ frame-parted s phase = refl
 -- ---- the chart
 
 module _ (s : List ℕ) (phase : ℕ) (out : List Float) where
-  pub chart-outcome : chartOf s phase out ≡ outcome (first (chartChecks s phase (length out))) (sheetOf s) phase out
-  unfolding chartOf
-  chart-outcome = refl
+  pub chart-numbers : chartOf s phase out .numbers ≡ settled (first (chartChecks s phase (length out))) (answered (frame (sheetOf s) phase) phase (chosen (sheetOf s) phase))
+  unfolding chartOf outcome
+  chart-numbers = refl
 
-  pub chart-numbers : chartOf s phase out .numbers
-      ≡ cond (eqb (first (chartChecks s phase (length out))) 0) (answered (frame (sheetOf s) phase) phase (chosen (sheetOf s) phase)) (refused (first (chartChecks s phase (length out))))
-  chart-numbers = ap (λ (c : Charted). c .numbers) chart-outcome ∙ outcome-numbers (first (chartChecks s phase (length out))) (sheetOf s) phase out
+  -- the list afterwards: the moved points over its front, or as it was
+  abbrev pub writtenOver : Sheet → List Float
+  writtenOver z = written phase (movedRings z phase) ++ drop (length (written phase (movedRings z phase))) out
 
-  pub chart-points : chartOf s phase out .points ≡ cond (eqb (first (chartChecks s phase (length out))) 0) (over (written phase (movedRings (sheetOf s) phase)) out) out
-  chart-points = ap (λ (c : Charted). c .points) chart-outcome ∙ outcome-points (first (chartChecks s phase (length out))) (sheetOf s) phase out
+  pub chart-points : chartOf s phase out .points ≡ cond (eqb (first (chartChecks s phase (length out))) 0) (writtenOver (sheetOf s)) out
+  unfolding chartOf outcome
+  chart-points = refl
 
   -- the status is the first check that fails, or 0
   pub chart-status : chartOf s phase out .numbers .status ≡ first (chartChecks s phase (length out))
-  unfolding settled
   chart-status =
       ap (λ (n : Numbers). n .status) chart-numbers
       ∙ settled-status (first (chartChecks s phase (length out))) (answered (frame (sheetOf s) phase) phase (chosen (sheetOf s) phase)) (answered-status (sheetOf s) phase)

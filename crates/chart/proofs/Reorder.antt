@@ -1,5 +1,7 @@
--- "For every reordering of the rings of a sheet whose layout reads, images moved with them, chart, image pick and plane pick each give the same status, point, clearance and count, bit for bit."
--- Here the chart. The same ring blocks in another order, all else in the call the same: the layout reads, the blocks are those, and the status, the point, the clearance and the count do not change, whether
+-- "For every reordering of the rings of a sheet whose layout reads, images moved with them, chart, image pick and plane
+-- pick each give the same status, point, clearance and count, bit for bit."
+-- Here the chart. The same ring blocks in another order, all else in the call the same: the layout reads, the blocks
+-- are those, and the status, the point, the clearance and the count do not change, whether
 -- the sheet is refused or not.
 use mathlib.Core.Path.{_≡_, sym, ap, ap₂, _∙_}
 use mathlib.Core.List.{List, _++_, map, flatten, List·Permᴰ}
@@ -9,12 +11,14 @@ use lib.Ieee.{Float}
 use Rattle.leaves.proofs.Folds.{All}
 use Rattle.sheet.specs.Content.{Coedge, Sheet, ringPoints}
 use Rattle.sheet.specs.Layout.{head, blocks, ring, sheetOf}
-use Rattle.sheet.specs.Checks.{first, layoutChecks}
+use Rattle.answers.specs.Outcome.{first, Numbers, settled}
+use Rattle.sheet.specs.Checks.{layoutChecks}
 use Rattle.sheet.proofs.BlockOrder.{its-blocks, its-layout, its-rings, its-sheet, rings-clear, whole, withRings}
-use Rattle.sheet.proofs.Checked.{first-passed, layout-numbered}
+use Rattle.answers.proofs.FirstCheck.{first-passed}
+use Rattle.sheet.proofs.Checked.{layout-numbered}
 use Rattle.sheet.proofs.Reading.{ClearPoint}
-use Rattle.sheet.specs.Outcome.{Numbers, settled}
-use Rattle.chart.specs.Chart.{answered, chosen, frame, chartOf}
+use Rattle.chart.specs.Chart.{answered, chosen, chartOf}
+use Rattle.frame.specs.Framing.{frame}
 use Rattle.chart.proofs.AnyOrder.{same-answer, same-later}
 use Rattle.chart.proofs.Outcomes.{chart-checks, chart-numbers, laterChecks}
 
@@ -24,7 +28,6 @@ abbrev pub numbersOf : Sheet → ℕ → ℕ → Numbers
 numbersOf s phase room = settled (first (laterChecks s phase room)) (answered (frame s phase) phase (chosen s phase))
 
 content-numbers : (s : List ℕ) → first (layoutChecks s) ≡ 0 → (phase : ℕ) (out : List Float) → chartOf s phase out .numbers ≡ numbersOf (sheetOf s) phase (length out)
-unfolding settled
 content-numbers s reads phase out =
     chart-numbers s phase out
     ∙ ap (λ (r : ℕ). settled r (answered (frame (sheetOf s) phase) phase (chosen (sheetOf s) phase)))

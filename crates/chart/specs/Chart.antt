@@ -1,50 +1,36 @@
--- Document 01, "Chart": the chart call, from the bytes of a sheet, the phase and the output list to the answer and the list's later contents.
+-- Document 01, "Chart": the chart call, from the bytes of a sheet, the phase and the output list to the answer and the
+-- list's later contents.
 use mathlib.Core.Bool.{Bool, false, not, cond, _&&_, _||_}
-use mathlib.Core.List.{List, [], _∷_, _++_, map, flatten, foldl}
+use mathlib.Core.List.{List, [], _∷_, _++_, map, foldl}
 use Prim.Native.Nat.{ℕ, _+_, _*_, _%_}
 use lib.Dec.{eqb, ltb}
 use lib.IntN.{ℤ, pos, negsuc, natAbs, _+ℤ_}
-use lib.ListN.{length}
+use lib.ListN.{length, drop}
 use lib.Ieee.{Float, inf, binary64, add, sub, mul, lt}
-use Rattle.leaves.specs.Constants.{zero, pi, clearanceLimit}
-use Rattle.sheet.specs.Content.{Point, point, Coedge, Sheet, ringPoints, flat}
-use Rattle.sheet.specs.Lists.{anyOf, over}
+use Rattle.leaves.specs.Constants.{zero, clearanceLimit}
+use Rattle.sheet.specs.Content.{Point, Sheet}
 use Rattle.sheet.specs.Layout.{sheetOf}
-use Rattle.sheet.specs.Checks.{Check, check, first, layoutChecks, contentChecks}
-use Rattle.rings.specs.Unroll.{movedRing}
-use Rattle.rings.specs.Joins.{opens, ringOpen}
-use Rattle.rings.specs.Normalise.{normal}
-use Rattle.rings.specs.Coverage.{crossing}
-use Rattle.rings.specs.Clearance.{nearer}
-use Rattle.sheet.specs.Outcome.{Numbers, refused}
-use Rattle.chart.specs.Frame.{frameOf, bandWide, narrow}
-use Rattle.rings.specs.Grid.{gridPoint}
-use Rattle.grid.specs.Search.{search}
-use Rattle.chart.specs.declared.frame.Frame.{Frame}
-use Rattle.grid.specs.declared.candidate.Candidate.{Candidate}
+use Rattle.answers.specs.Outcome.{Check, check, first, Numbers, settled}
+use Rattle.sheet.specs.Checks.{layoutChecks, contentChecks}
+use Rattle.points.specs.Normalise.{normal}
+use Rattle.coverage.specs.Coverage.{crossing}
+use Rattle.clearance.specs.Clearance.{nearer}
+use Rattle.points.specs.Written.{phaseAngle, written}
+use Rattle.frame.specs.Framing.{movedRings, frame, pointCount, phaseWrong, joinChecks}
+use Rattle.points.specs.Grid.{gridPoint}
+use Rattle.search.specs.Search.{search}
+use Rattle.frame.specs.declared.framing.Frame.{Frame}
+use Rattle.search.specs.declared.candidate.Candidate.{Candidate}
 
--- ---- rules 1 to 5, of a sheet's content at a phase
+-- ---- 5: "Normalise: (coordinate − least)/scale"
 
-module _ (s : Sheet) (phase : ℕ) where
-  -- 1 and 2: the points of each ring, turned and moved, in file order
-  unfoldable pub movedRings : List (List Point)
-  unfolding movedRing ringPoints
-  movedRings = map (λ (r : List Coedge). movedRing (s .kind) phase (ringPoints r)) (s .rings)
+unfoldable pub normalisedBy : Frame → List (List Point) → List (List Point)
+unfolding normal
+normalisedBy f rings = map (map (normal (f .«least_u») (f .«least_v») (f .«scale_u») (f .«scale_v»))) rings
 
-  -- 3: box, band and periodic, and rule 5's P
-  unfoldable pub frame : Frame
-  unfolding frameOf movedRings
-  frame = frameOf (s .kind) movedRings
-
-  -- 4, for check 13: whether any ring has a join above 1e-4
-  unfoldable pub joinsOpen : Bool
-  unfolding anyOf ringOpen opens movedRing ringPoints frame
-  joinsOpen = anyOf (λ (r : List Coedge). ringOpen (frame .periodic) (frame .«scale_u») (frame .«scale_v») (opens r) (movedRing (s .kind) phase (ringPoints r))) (s .rings)
-
-  -- 5: "Normalise: (coordinate − least)/scale"
-  unfoldable pub normalised : List (List Point)
-  unfolding normal frame movedRings
-  normalised = map (map (normal (frame .«least_u») (frame .«least_v») (frame .«scale_u») (frame .«scale_v»))) movedRings
+unfoldable pub normalised : Sheet → ℕ → List (List Point)
+unfolding normalisedBy frame movedRings
+normalised s phase = normalisedBy (frame s phase) (movedRings s phase)
 
 -- ---- rules 7 to 9 see the normalised rings, the frame and the sense, and nothing else
 
@@ -86,16 +72,7 @@ unfoldable pub chosen : Sheet → ℕ → Candidate
 unfolding candidate frame normalised
 chosen s phase = candidate (frame s phase) (s .sense) (normalised s phase)
 
--- how many points the rings have
-unfoldable pub pointCount : Sheet → ℕ
-unfolding ringPoints
-pointCount s = foldl (λ (n : ℕ) (r : List Coedge). n + length (ringPoints r)) 0 (s .rings)
-
 -- ---- the answer
-
--- "phase (0 or PI)"
-unfoldable pub phaseAngle : ℕ → Float
-phaseAngle phase = cond (eqb phase 1) pi zero
 
 -- "u = least + p.u × scale, v = least + p.v × scale − phase (0 or PI), third coordinate 0, with clearance and count"
 unfoldable pub answered : Frame → ℕ → Candidate → Numbers
@@ -109,20 +86,7 @@ answered f phase c = record {
   count = c .count;
 }
 
--- "writes each moved point (u, v − phase) in order"
-unfoldable pub writtenPoint : ℕ → Point → Point
-unfolding sub phaseAngle
-writtenPoint phase p = point (p .u) (sub binary64 (p .v) (phaseAngle phase))
-
-unfoldable pub written : ℕ → List (List Point) → List Float
-unfolding flat flatten writtenPoint
-written phase rings = flat (map (writtenPoint phase) (flatten rings))
-
 -- ---- the table, read top to bottom
-
--- 8: "phase not 0 or 1; 1 off a torus"
-unfoldable pub phaseWrong : Sheet → ℕ → Bool
-phaseWrong s phase = ltb 1 phase || (eqb phase 1 && not (eqb (s .kind) 4))
 
 -- 9: "chart: output shorter than 2 × points"
 unfoldable pub roomWrong : Sheet → ℕ → Bool
@@ -134,14 +98,10 @@ unfoldable pub noneClear : Candidate → Bool
 unfolding lt
 noneClear c = not (lt clearanceLimit (c .clearance))
 
+-- the rows behind the call's own, which stand between 8 and 11
 unfoldable pub frameChecks : Sheet → ℕ → List Check
-unfolding bandWide narrow frame joinsOpen noneClear
-frameChecks s phase =
-    check 11 (bandWide (frame s phase))
-    ∷ check 12 (narrow (frame s phase))
-    ∷ check 13 (joinsOpen s phase)
-    ∷ check 14 (noneClear (chosen s phase))
-    ∷ []
+unfolding joinChecks noneClear
+frameChecks s phase = joinChecks s phase ++ check 14 (noneClear (chosen s phase)) ∷ []
 
 unfoldable pub chartChecks : List ℕ → ℕ → ℕ → List Check
 unfolding layoutChecks contentChecks sheetOf phaseWrong roomWrong frameChecks
@@ -161,11 +121,14 @@ pub record Charted : Type 0 where
 abbrev pub charted : Numbers → List Float → Charted
 charted numbers points = record { numbers = numbers; points = points }
 
--- "With a refusal all other result numbers are 0 and no lent list is written"; else the chart's answer, and the moved points over the front of the list, whose tail keeps its contents
+-- "With a refusal all other result numbers are 0 and no lent list is written"; else the chart's answer, and the moved
+-- points over the front of the list, whose tail keeps its contents
 unfoldable pub outcome : ℕ → Sheet → ℕ → List Float → Charted
-unfolding answered frame over written movedRings
+unfolding settled answered frame written movedRings
 outcome refusal s phase out =
-    cond (eqb refusal 0) (charted (answered (frame s phase) phase (chosen s phase)) (over (written phase (movedRings s phase)) out)) (charted (refused refusal) out)
+    charted
+    (settled refusal (answered (frame s phase) phase (chosen s phase)))
+    (cond (eqb refusal 0) (written phase (movedRings s phase) ++ drop (length (written phase (movedRings s phase))) out) out)
 
 unfoldable pub chartOf : List ℕ → ℕ → List Float → Charted
 unfolding outcome first chartChecks sheetOf

@@ -1,17 +1,20 @@
--- Demand 3's words on the grid and on the rings, where document 01's rules leave them to the reader. No contract cites them: the theorems in proofs/ do.
+-- Demand 3's words on the grid and on the rings, where document 01's rules leave them to the reader. No contract cites
+-- them: the theorems in proofs/ do.
 use mathlib.Core.Path.{_≡_}
-use mathlib.Core.Logic.{_⊎_}
+use mathlib.Core.Logic.{_↔_, _⊎_}
 use mathlib.Core.Bool.{Bool, true, false, not, cond}
 use mathlib.Core.List.{List, [], _∷_}
 use Prim.Native.Nat.{ℕ, suc, _≤_, _<_}
 use lib.Dec.{T, leb}
 use lib.Ieee.{Float, lt, le}
 use Rattle.leaves.specs.Constants.{clearanceLimit}
-use Rattle.sheet.specs.Content.{Sheet}
-use Rattle.sheet.specs.Checks.{Check, first}
-use Rattle.rings.specs.Grid.{part, gridPoint, gridOf}
-use Rattle.grid.specs.declared.candidate.Candidate.{Candidate}
-use Rattle.chart.specs.Chart.{covered, clearance, frame, normalised}
+use lib.IntN.{_+ℤ_}
+use Rattle.sheet.specs.Content.{Point, Sheet}
+use Rattle.answers.specs.Outcome.{Check, first, Numbers}
+use Rattle.points.specs.Grid.{part, gridPoint, gridOf}
+use Rattle.search.specs.declared.candidate.Candidate.{Candidate}
+use Rattle.chart.specs.Chart.{covered, clearance, crossings, normalised}
+use Rattle.frame.specs.Framing.{frame}
 
 -- ---- "31 × 31 grid points", "u before v"
 
@@ -48,7 +51,8 @@ module _ (cover : ℕ → ℕ → Bool) (clear : ℕ → ℕ → Float) where
   abbrev pub NoneServes : Type 0
   NoneServes = (i j : ℕ) → Serves i j → ⊥
 
-  -- "the chosen point is covered. Every other covered grid point has at most its clearance, and those with the same clearance come after it": those that it comes after have less
+  -- "the chosen point is covered. Every other covered grid point has at most its clearance, and those with the same
+  -- clearance come after it": those that it comes after have less
   pub record Clearest (i j : ℕ) : Type 0 where
     pub serves : Serves i j
     pub most : (k l : ℕ) → OnGrid k l → T (cover k l) → T (le (clear k l) (clear i j))
@@ -89,3 +93,18 @@ picked d (x ∷ xs) = cond (d 0) (x ∷ picked (λ (n : ℕ). d (suc n)) xs) (pi
 
 abbrev pub others : (ℕ → Bool) → ℕ → Bool
 others d n = not (d n)
+
+-- ---- the sentences, of a sheet's content
+
+-- 14 exactly where no grid point serves; else `numbers` are those of the clearest covered grid point, the first of
+-- those as clear
+abbrev pub Rule : Sheet → ℕ → Numbers → (Candidate → Numbers) → Type 0
+Rule s phase numbers ofChosen =
+    ((numbers .status ≡ 14) ↔ NoneServes (coverAt s phase) (clearAt s phase))
+    × ((NoneServes (coverAt s phase) (clearAt s phase) → ⊥)
+    → (i : ℕ) × (j : ℕ) × Clearest (coverAt s phase) (clearAt s phase) i j × (numbers ≡ ofChosen (candidateAt (coverAt s phase) (clearAt s phase) i j)))
+
+-- the crossings of the two groups that d divides the rings into add to those of all
+abbrev pub GroupsAdd : Sheet → ℕ → (ℕ → Bool) → Point → Type 0
+GroupsAdd s phase d p =
+    crossings (frame s phase) (normalised s phase) p ≡ crossings (frame s phase) (picked d (normalised s phase)) p +ℤ crossings (frame s phase) (picked (others d) (normalised s phase)) p

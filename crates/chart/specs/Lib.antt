@@ -1,7 +1,5 @@
-pub mod Answer
-pub mod Frame
 pub mod Chart
-pub mod Parts
+pub mod Found
 pub mod Stages
 pub mod Demand
 pub mod Plates

@@ -4,7 +4,7 @@ use mathlib.Core.List.{List}
 use Prim.Native.Nat.{ℕ}
 use lib.Dec.{ltb}
 use lib.ListN.{length}
-use Rattle.sheet.specs.Outcome.{Numbers, refused}
+use Rattle.answers.specs.Outcome.{Numbers, refused}
 use Rattle.picker.specs.PlanePick.{planePickOf}
 
 unfoldable pub answerTo : List ℕ → Numbers

@@ -3,13 +3,13 @@
 // Where the input cannot be read there is no answer and no line; that, and a line that cannot be written, is
 // said on standard error. A proved program has no exit status to set: it ends with 0, or by the signal of a
 // pipe that nobody reads.
-use chart::Answer;
+use answers::Answer;
 use libc::STDIN_FILENO;
 use libc::STDOUT_FILENO;
 ghost use mathlib.Core.Path.{_≡_};
 ghost use lib.ListN.{length, take};
 ghost use Rattle.io.specs.Counts.{Counts};
-ghost use Rattle.chart.specs.Answer.{paper};
+ghost use Rattle.answers.specs.Answers.{paper};
 ghost use Rattle.facepoint.specs.Answer.{answerTo};
 ghost use Rattle.facepoint.specs.Line.{lineOf};
 ghost use Rattle.facepoint.specs.Read.{Within};

@@ -1,11 +1,12 @@
--- Smaller-of and larger-of. Each answers one of its two arguments, and where neither is a NaN that one is least, or greatest, of the two.
--- A NaN as the second argument changes nothing, so from a start that is no NaN the answer is none, and where nothing is -0 two steps may change places.
-use mathlib.Core.Path.{_≡_, refl, sym, ap, _∙_}
-use mathlib.Core.Logic.{_⊎_, inl, inr}
+-- Smaller-of and larger-of. Each answers one of its two arguments, and where neither is a NaN that one is least, or
+-- greatest, of the two.
+-- A NaN as the second argument changes nothing, so from a start that is no NaN the answer is none, and where nothing is
+-- -0 two steps may change places.
+use mathlib.Core.Path.{_≡_, refl, sym, _∙_}
 use mathlib.Core.Bool.{Bool, true, false, not, cond}
 use lib.Dec.{T}
-use lib.Ieee.{Float, nan, Format, fits, isNan, lt, le}
-use Rattle.leaves.proofs.Order.{le-self, less-nan, lt→le, lt-asym, lt-left, lt-right, lt-trans, minusZero, nan-less, not-lt→le, same}
+use lib.Ieee.{Float, Format, fits, isNan, lt, le}
+use Rattle.leaves.proofs.Order.{le-self, lt→le, lt-asym, lt-left, lt-right, lt-trans, minusZero, not-lt→le, same}
 use Rattle.leaves.specs.Bounds.{smallerOf, largerOf}
 
 -- a value that the format holds and that is not -0. It may be a NaN.
@@ -18,10 +19,6 @@ either : (P : Float → Type 0) (c : Bool) (x y : Float) → (T c → P x) → (
 either P true x y h k = h tt
 either P false x y h k = k tt
 
-one-of : (c : Bool) (x y : Float) → (cond c x y ≡ y) ⊎ (cond c x y ≡ x)
-one-of true x y = inr refl
-one-of false x y = inl refl
-
 -- ---- two steps change places, for `lt` and for `lt` the other way round
 
 -- x or y, by two tests of which not both pass, and if neither does the two are the same
@@ -31,7 +28,8 @@ tied true false x y p q = refl
 tied false true x y p q = refl
 tied false false x y p q = sym (q tt tt)
 
--- of two steps from s, first x's and then y's, against y's and then x's: less than s are x or y by xs and ys, and than each other by xy and yx
+-- of two steps from s, first x's and then y's, against y's and then x's: less than s are x or y by xs and ys, and than
+-- each other by xy and yx
 swapped : (xs ys xy yx : Bool) (x y s : Float) → (T xy → T yx → ⊥) → (T xy → T ys → T xs) → (T yx → T xs → T ys) → (T xs → T ys → T (not xy) → T (not yx) → x ≡ y)
     → cond xs (cond yx y x) (cond ys y s) ≡ cond ys (cond xy x y) (cond xs x s)
 swapped true true xy yx x y s p q r e = tied yx xy y x (λ a b. p b a) (λ a b. sym (e tt tt b a))
@@ -56,17 +54,10 @@ pub smaller-by-test : (a b : Float) → smallerOf a b ≡ cond (lt b a) b a
 unfolding smallerOf
 smaller-by-test a b = refl
 
-pub smaller-either : (a b : Float) → (smallerOf a b ≡ a) ⊎ (smallerOf a b ≡ b)
-unfolding smallerOf
-smaller-either a b = one-of (lt b a) b a
-
 -- what holds of both holds of the answer
 pub smaller-keeps : (P : Float → Type 0) (a b : Float) → P a → P b → P (smallerOf a b)
 unfolding smallerOf
 smaller-keeps P a b p q = either P (lt b a) b a (λ t. q) (λ t. p)
-
-pub smaller-clear : {f : Format} (a b : Float) → Clear f a → Clear f b → Clear f (smallerOf a b)
-smaller-clear {f} a b p q = smaller-keeps (Clear f) a b p q
 
 pub smaller-number : (a b : Float) → T (not (isNan a)) → T (not (isNan (smallerOf a b)))
 unfolding smallerOf
@@ -79,17 +70,6 @@ smaller-le-first a b n = either (λ (x : Float). T (le x a)) (lt b a) b a (lt→
 pub smaller-le-second : (a b : Float) → T (not (isNan a)) → T (not (isNan b)) → T (le (smallerOf a b) b)
 unfolding smallerOf
 smaller-le-second a b n o = either (λ (x : Float). T (le x b)) (lt b a) b a (λ t. le-self b o) (not-lt→le b a o n)
-
-pub smaller-self : (a : Float) → smallerOf a a ≡ a
-smaller-self a = smaller-keeps (λ (x : Float). x ≡ a) a a refl refl
-
-pub smaller-nan : (a : Float) → smallerOf a nan ≡ a
-unfolding smallerOf
-smaller-nan a = ap (λ (c : Bool). cond c nan a) (nan-less a)
-
-pub smaller-comm : (f : Format) (a b : Float) → Clear f a → Clear f b → T (not (isNan a)) → T (not (isNan b)) → smallerOf a b ≡ smallerOf b a
-unfolding smallerOf
-smaller-comm f a b p q n o = tied (lt b a) (lt a b) b a (lt-asym b a) (λ t u. same f b a (q .held) (p .held) o n (q .unmarked) (p .unmarked) t u)
 
 -- s may be anything that fits, a and b may be NaNs
 pub smaller-swap : (f : Format) (s a b : Float) → T (fits f s) → Clear f a → Clear f b → smallerOf (smallerOf s a) b ≡ smallerOf (smallerOf s b) a
@@ -104,40 +84,10 @@ pub larger-by-test : (a b : Float) → largerOf a b ≡ cond (lt a b) b a
 unfolding largerOf
 larger-by-test a b = refl
 
-pub larger-either : (a b : Float) → (largerOf a b ≡ a) ⊎ (largerOf a b ≡ b)
-unfolding largerOf
-larger-either a b = one-of (lt a b) b a
-
 -- what holds of both holds of the answer
 pub larger-keeps : (P : Float → Type 0) (a b : Float) → P a → P b → P (largerOf a b)
 unfolding largerOf
 larger-keeps P a b p q = either P (lt a b) b a (λ t. q) (λ t. p)
-
-pub larger-clear : {f : Format} (a b : Float) → Clear f a → Clear f b → Clear f (largerOf a b)
-larger-clear {f} a b p q = larger-keeps (Clear f) a b p q
-
-pub larger-number : (a b : Float) → T (not (isNan a)) → T (not (isNan (largerOf a b)))
-unfolding largerOf
-larger-number a b n = either (λ (x : Float). T (not (isNan x))) (lt a b) b a (lt-right a b) (λ t. n)
-
-pub first-le-larger : (a b : Float) → T (not (isNan a)) → T (le a (largerOf a b))
-unfolding largerOf
-first-le-larger a b n = either (λ (x : Float). T (le a x)) (lt a b) b a (lt→le a b) (λ t. le-self a n)
-
-pub second-le-larger : (a b : Float) → T (not (isNan a)) → T (not (isNan b)) → T (le b (largerOf a b))
-unfolding largerOf
-second-le-larger a b n o = either (λ (x : Float). T (le b x)) (lt a b) b a (λ t. le-self b o) (not-lt→le a b n o)
-
-pub larger-self : (a : Float) → largerOf a a ≡ a
-larger-self a = larger-keeps (λ (x : Float). x ≡ a) a a refl refl
-
-pub larger-nan : (a : Float) → largerOf a nan ≡ a
-unfolding largerOf
-larger-nan a = ap (λ (c : Bool). cond c nan a) (less-nan a)
-
-pub larger-comm : (f : Format) (a b : Float) → Clear f a → Clear f b → T (not (isNan a)) → T (not (isNan b)) → largerOf a b ≡ largerOf b a
-unfolding largerOf
-larger-comm f a b p q n o = tied (lt a b) (lt b a) b a (lt-asym a b) (λ t u. same f b a (q .held) (p .held) o n (q .unmarked) (p .unmarked) u t)
 
 -- s may be anything that fits, a and b may be NaNs
 pub larger-swap : (f : Format) (s a b : Float) → T (fits f s) → Clear f a → Clear f b → largerOf (largerOf s a) b ≡ largerOf (largerOf s b) a

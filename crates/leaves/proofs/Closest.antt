@@ -1,5 +1,7 @@
--- `round f false a c` is the value of the format that is nearest to a / c: of any other value y, the midpoint of the two lies on y's side of a / c, or at it.
--- In units of the format's smallest value: G is the rounded value, Y any value that fits, and n = a * 2 ^ low, so that n / c is the fraction in units. Assumes nothing.
+-- `round f false a c` is the value of the format that is nearest to a / c: of any other value y, the midpoint of the
+-- two lies on y's side of a / c, or at it.
+-- In units of the format's smallest value: G is the rounded value, Y any value that fits, and n = a * 2 ^ low, so that
+-- n / c is the fraction in units. Assumes nothing.
 use mathlib.Core.Path.{_≡_, refl, sym, ap, _∙_, subst}
 use mathlib.Core.Logic.{_⊎_, inl, inr}
 use Prim.Native.Nat.{ℕ, zero, suc, _+_, _-_, _*_, _/_, _%_, _^_, _≤_, _<_, compare, Ordering, Ordering·lt, Ordering·eq, Ordering·gt}
@@ -82,7 +84,8 @@ next-step f y w (suc k) h e l =
 
 -- ---- the rounded value
 
--- The rounded value q * p in steps of p, the fraction n / c, its whole part Q in steps, and a value of Y units that does not lie between the steps Q and Q + 1.
+-- The rounded value q * p in steps of p, the fraction n / c, its whole part Q in steps, and a value of Y units that
+-- does not lie between the steps Q and Q + 1.
 module _ (n c p q Q Y : ℕ) (c-pos : 0 < c) (p-pos : 0 < p) (near-n : Near n (c * p) q) (part : n / (c * p) ≡ Q) (step : Q * p < Y → (Q + 1) * p ≤ Y) where
   in-steps : (x : ℕ) → x * p * c ≡ x * (c * p)
   in-steps x = mul-assoc x p c ∙ ap (λ (z : ℕ). x * z) (mul-comm p c)

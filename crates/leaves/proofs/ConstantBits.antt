@@ -1,4 +1,5 @@
--- Each decimal constant has the bits of the nearest f64, which are those that the code's literal shows; 1/0 is infinity, and -1/0 the negative one. By computation.
+-- Each decimal constant has the bits of the nearest f64, which are those that the code's literal shows; 1/0 is
+-- infinity, and -1/0 the negative one. By computation.
 use mathlib.Core.Path.{_≡_, refl}
 use mathlib.Core.Bool.{true, false}
 use Prim.Native.Nat.{_^_}

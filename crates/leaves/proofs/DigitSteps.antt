@@ -1,5 +1,7 @@
--- The digit engine's loop, over plain numbers: n is the radicand, found the digits so far, `place` digits are still to be found, and left * 2 ^ place is twice what is left of n.
--- A step finds the digit of weight w = 2 ^ (place - 1): it is 1 where (found + w) * (found + w) ≤ n, which is where 2 * found + w ≤ left. Assumes nothing.
+-- The digit engine's loop, over plain numbers: n is the radicand, found the digits so far, `place` digits are still to
+-- be found, and left * 2 ^ place is twice what is left of n.
+-- A step finds the digit of weight w = 2 ^ (place - 1): it is 1 where (found + w) * (found + w) ≤ n, which is where 2 *
+-- found + w ≤ left. Assumes nothing.
 use mathlib.Core.Path.{_≡_, sym, ap, _∙_, subst}
 use mathlib.Core.Bool.{Bool, true, false, not, cond}
 use Prim.Native.Nat.{ℕ, zero, suc, _+_, _-_, _*_, _/_, _%_, _^_, _≤_, _<_}

@@ -1,7 +1,8 @@
--- A fold whose steps commute is the same for every order of the list. So any-of, sums, and the least and the greatest of values none of which is -0 do not turn on the order.
--- The steps need to commute only at the states that the fold can reach, which P holds of, and at the list's elements, which Q holds of.
+-- A fold whose steps commute is the same for every order of the list. So any-of, sums, and the least and the greatest
+-- of values none of which is -0 do not turn on the order.
+-- The steps need to commute only at the states that the fold can reach, which P holds of, and at the list's elements,
+-- which Q holds of.
 use mathlib.Core.Path.{_≡_, refl, sym, ap, _∙_, subst}
-use mathlib.Core.Bool.{Bool, true, false, _||_}
 use mathlib.Core.List.{List, [], _∷_, _++_, foldl, List·Permᴰ, List·Permᴰ·nil, List·Permᴰ·cons, List·Permᴰ·swap, List·Permᴰ·trans}
 use Prim.Native.Nat.{ℕ, _+_}
 use native.Mathlib.Nat.{add-assoc, add-right-comm, add-zero, zero-add}
@@ -63,16 +64,6 @@ fold-perm-always {A} {S} step swaps {xs} d s =
     fold-perm step (λ (z : S). Unit {0}) (λ (a : A). Unit {0}) (λ z a p q. tt) (λ z a b p q r. swaps z a b) d (all-of (λ (a : A). Unit {0}) (λ a. tt) xs) s tt
 
 -- ---- the folds in use
-
-or-swap : (s a b : Bool) → ((s || a) || b) ≡ ((s || b) || a)
-or-swap true a b = refl
-or-swap false true true = refl
-or-swap false true false = refl
-or-swap false false true = refl
-or-swap false false false = refl
-
-pub any-perm : {A : Type 0} (test : A → Bool) {xs ys : List A} → List·Permᴰ xs ys → (s : Bool) → foldl (λ (b : Bool) (x : A). b || test x) s xs ≡ foldl (λ (b : Bool) (x : A). b || test x) s ys
-any-perm {A} test d s = fold-perm-always (λ (b : Bool) (x : A). b || test x) (λ z a b. or-swap z (test a) (test b)) d s
 
 pub sum-perm : {A : Type 0} (part : A → ℕ) {xs ys : List A} → List·Permᴰ xs ys → (s : ℕ) → foldl (λ (n : ℕ) (x : A). n + part x) s xs ≡ foldl (λ (n : ℕ) (x : A). n + part x) s ys
 sum-perm {A} part d s = fold-perm-always (λ (n : ℕ) (x : A). n + part x) (λ z a b. add-right-comm z (part a) (part b)) d s

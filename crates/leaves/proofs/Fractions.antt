@@ -1,5 +1,7 @@
--- Signed fractions. Two finite values are in order exactly where their numerators over a common denominator are, and a number above 0 may be multiplied into both.
--- What ±a adds and what it takes off make of that order, and of a sum, an order and an equation between natural numbers: so sums of parts in order are in order.
+-- Signed fractions. Two finite values are in order exactly where their numerators over a common denominator are, and a
+-- number above 0 may be multiplied into both.
+-- What ±a adds and what it takes off make of that order, and of a sum, an order and an equation between natural
+-- numbers: so sums of parts in order are in order.
 use mathlib.Core.Path.{_≡_, refl, sym, ap, _∙_}
 use mathlib.Core.Logic.{inl, inr}
 use mathlib.Core.Bool.{Bool, true, false, not}

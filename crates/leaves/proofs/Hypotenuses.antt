@@ -1,12 +1,13 @@
--- Keys and hypotenuses. A key is a value without a sign, or a NaN. Keys order as hypotenuses do: the hypotenuse of the lesser key is not greater, the least of two hypotenuses is that of the lesser key, and the greatest
--- that of the greater, so the least of many takes one root. A hypotenuse is never -0, never negative, and fits. Assumes nothing.
+-- Keys and hypotenuses. A key is a value without a sign, or a NaN. Keys order as hypotenuses do: the hypotenuse of the
+-- lesser key is not greater, the least of two hypotenuses is that of the lesser key, and the greatest
+-- that of the greater, so the least of many takes one root. A hypotenuse is never -0, never negative, and fits. Assumes
+-- nothing.
 use mathlib.Core.Path.{_≡_, refl, ap, _∙_}
 use mathlib.Core.List.{List, [], _∷_, foldl}
 use mathlib.Core.Bool.{false}
 use Prim.Native.Nat.{zero}
 use lib.Dec.{T}
-use lib.IntN.{pos}
-use lib.Ieee.{Float, inf, fin, binary64, mul, lt, le, fits, ofBits}
+use lib.Ieee.{Float, inf, binary64, mul, le, fits, ofBits}
 use lib.Ieee.Bits.{ofBits-fits}
 use lib.Ieee.Fits.{add-fits, inf-fits}
 use Rattle.leaves.specs.Bounds.{smallerOf, largerOf}
@@ -18,7 +19,7 @@ use Rattle.leaves.proofs.Choices.{Clear, smaller-keeps}
 use Rattle.leaves.proofs.Folds.{All}
 use Rattle.leaves.proofs.Signs.{Unsigned, clear-of-sign, add-positive, square-positive}
 use Rattle.leaves.proofs.Roots.{root-held}
-use Rattle.leaves.proofs.RootOrder.{unsigned-not-negative, root-mono, root-unsigned, lt-of-roots, smaller-root, larger-root}
+use Rattle.leaves.proofs.RootOrder.{root-mono, root-unsigned, smaller-root, larger-root}
 
 -- ---- keys
 
@@ -50,9 +51,6 @@ hypot-of-zero = refl
 pub smaller-key : (k l : Float) → Key k → Key l → Key (smallerOf k l)
 smaller-key k l p q = smaller-keeps Key k l p q
 
-pub key-clear : (k : Float) → Key k → Clear binary64 k
-key-clear k p = record { held = p .held; unmarked = clear-of-sign k (p .unsigned) }
-
 -- ---- a hypotenuse is that of a key
 
 pub hypot-by-key : (a b : Float) → hypotOf a b ≡ hypotOfKey (keyOf a b)
@@ -68,11 +66,6 @@ hypot3-by-key a b c = refl
 pub hypot-mono : (k l : Float) → Key k → Key l → T (le k l) → T (le (hypotOfKey k) (hypotOfKey l))
 unfolding hypotOfKey rootOf
 hypot-mono k l p q h = root-mono binary64 k l (p .held) (q .held) (p .unsigned) h
-
--- of two keys the one with the lesser hypotenuse is the lesser
-pub lt-of-hypots : (k l : Float) → Key k → Key l → T (lt (hypotOfKey k) (hypotOfKey l)) → T (lt k l)
-unfolding hypotOfKey rootOf
-lt-of-hypots k l p q h = lt-of-roots binary64 l k (q .held) (p .held) (q .unsigned) (p .unsigned) h
 
 pub smaller-hypot : (k l : Float) → Key k → Key l → smallerOf (hypotOfKey k) (hypotOfKey l) ≡ hypotOfKey (smallerOf k l)
 unfolding hypotOfKey rootOf
@@ -110,9 +103,3 @@ hypot-clear a b = clear (hypotOf a b) (hypot-is a b)
 
 pub hypot3-clear : (a b c : Float) → Clear binary64 (hypot3Of a b c)
 hypot3-clear a b c = clear (hypot3Of a b c) (hypot3-is a b c)
-
-pub hypot-not-negative : (a b : Float) → T (lt (hypotOf a b) (fin false zero (pos 0))) → ⊥
-hypot-not-negative a b h = unsigned-not-negative (hypotOf a b) (hypot-is a b .plain) h
-
-pub hypot3-not-negative : (a b c : Float) → T (lt (hypot3Of a b c) (fin false zero (pos 0))) → ⊥
-hypot3-not-negative a b c h = unsigned-not-negative (hypot3Of a b c) (hypot3-is a b c .plain) h

@@ -1,6 +1,8 @@
--- Laws about the definitions of `leaves`, by subject. What two functions' proofs need, and what the layers above cite, stands here.
+-- Laws about the definitions of `leaves`, by subject. What two functions' proofs need, and what the layers above cite,
+-- stands here.
 
--- values of a format, their order, also as signed fractions, their signs, the operations that keep both, a NaN's patterns
+-- values of a format, their order, also as signed fractions, their signs, the operations that keep both, a NaN's
+-- patterns
 pub mod Values
 pub mod Order
 pub mod Fractions

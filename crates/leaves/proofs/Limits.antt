@@ -1,5 +1,7 @@
--- Values held against a limit. Whether the least of many is not above the limit is told by one after the other: it is where one of them is, since a NaN is neither the least nor below a limit.
--- And a hypotenuse of three parts is told to be above it by the key of two: keys grow with the first part, so where that key reaches k, and the hypotenuse of k alone is above the limit, no third part brings it down.
+-- Values held against a limit. Whether the least of many is not above the limit is told by one after the other: it is
+-- where one of them is, since a NaN is neither the least nor below a limit.
+-- And a hypotenuse of three parts is told to be above it by the key of two: keys grow with the first part, so where
+-- that key reaches k, and the hypotenuse of k alone is above the limit, no third part brings it down.
 use mathlib.Core.Path.{_≡_, refl, sym, ap, subst, _∙_}
 use mathlib.Core.Bool.{Bool, true, false, not, _||_, cond}
 use lib.Dec.{T, T-not, not-T}

@@ -1,6 +1,9 @@
--- The rounded operations keep the order. Two signed fractions in order round to values in order, overflow to an infinity included: the magnitudes do, the other sign turns them
--- round, and at the middle a zero of either sign equals the other. A sum is a signed fraction rounded once, and so is a product with or a quotient by a value above 0: each keeps the order
--- because its exact fraction does, and a square where there is no sign. An infinity among the operands stays at its end of the order; a sum is a NaN only of two opposite infinities.
+-- The rounded operations keep the order. Two signed fractions in order round to values in order, overflow to an
+-- infinity included: the magnitudes do, the other sign turns them
+-- round, and at the middle a zero of either sign equals the other. A sum is a signed fraction rounded once, and so is a
+-- product with or a quotient by a value above 0: each keeps the order
+-- because its exact fraction does, and a square where there is no sign. An infinity among the operands stays at its end
+-- of the order; a sum is a NaN only of two opposite infinities.
 use mathlib.Core.Path.{_≡_, refl, sym, ap, _∙_, subst, subst₂}
 use mathlib.Core.Bool.{Bool, true, false, not, cond, true≢false}
 use Prim.Native.Nat.{ℕ, _+_, _-_, _*_, _≤_, _<_}
@@ -178,10 +181,6 @@ add-mono f x y c h l = add-le f x y c c (add-number f x c (le-left x y l) h) (ad
 pub add-mono-second : (f : Format) (c x y : Float) → T (finite c) → T (le x y) → T (le (add f c x) (add f c y))
 add-mono-second f c x y h l = add-le f c c x y (add-number-second f c x h (le-left x y l)) (add-number-second f c y h (le-right x y l)) (le-self c (finite-number c h)) l
 
-pub sub-number : (f : Format) (x c : Float) → T (not (isNan x)) → T (finite c) → T (not (isNan (sub f x c)))
-unfolding sub
-sub-number f x c n h = add-number f x (neg c) n (neg-finite c h)
-
 pub sub-mono : (f : Format) (x y c : Float) → T (finite c) → T (le x y) → T (le (sub f x c) (sub f y c))
 unfolding sub
 sub-mono f x y c h l = add-mono f x y (neg c) (neg-finite c h) l
@@ -218,12 +217,6 @@ mul-mono f x y p h l = scaled-mono f (num p) (den p) (den-pos p) (λ (z : Float)
 
 pub div-mono : (f : Format) (x y p : Float) → T (positive p) → T (le x y) → T (le (div f x p) (div f y p))
 div-mono f x y p h l = scaled-mono f (den p) (num p) (size-above p h) (λ (z : Float). div f z p) (div-of-inf f p h) (div-of-finite f p h) x y l
-
-pub mul-number : (f : Format) (x p : Float) → T (positive p) → T (not (isNan x)) → T (not (isNan (mul f x p)))
-mul-number f x p h n = le-left (mul f x p) (mul f x p) (mul-mono f x x p h (le-self x n))
-
-pub div-number : (f : Format) (x p : Float) → T (positive p) → T (not (isNan x)) → T (not (isNan (div f x p)))
-div-number f x p h n = le-left (div f x p) (div f x p) (div-mono f x x p h (le-self x n))
 
 -- ---- squares, of values without a sign
 

@@ -1,7 +1,9 @@
--- The order of the values that a format holds, of either sign. `place` numbers them in order, from one infinity to the other, with one number for both zeros:
+-- The order of the values that a format holds, of either sign. `place` numbers them in order, from one infinity to the
+-- other, with one number for both zeros:
 -- so `lt` and `le` are transitive, and of two values that are no NaN either one is less or the other is less or equal.
 -- Two values that are neither a NaN nor -0, and neither of which is less than the other, are the same.
--- What equals 0, or lies between a zero and its opposite, is a zero. So of two equal values that are no zeros each is the other.
+-- What equals 0, or lies between a zero and its opposite, is a zero. So of two equal values that are no zeros each is
+-- the other.
 use mathlib.Core.Path.{_≡_, refl, sym, ap, ap₂, _∙_, subst}
 use mathlib.Core.Logic.{_≢_, inl, inr}
 use mathlib.Core.Bool.{Bool, true, false, not, _&&_, _||_, Bool·beq}
@@ -13,7 +15,7 @@ use lib.Dec.{T, T-not, not-T, ltb, eqb, eqb→eq, lt→ltb, ltb→lt, nltb→le}
 use lib.Arith.{le→nltb}
 use lib.Pow.{pow-pos}
 use lib.Ieee.{Float, nan, inf, fin, Format, low, up, down, ofBits, neg, fits, isNan, level, lt, eq, le}
-use lib.Ieee.Fits.{and-i, and-l, and-r, down-pos, eq→eqb, neg-fits, up-pos}
+use lib.Ieee.Fits.{and-i, and-l, and-r, down-pos, eq→eqb, up-pos}
 use lib.Ieee.Scale.{finite, overflow}
 use Rattle.leaves.specs.Constants as constants
 use Rattle.leaves.proofs.Values.{same-units, sign, units-over, units-over-swapped, units-small, units-zero, unitsIn, zero-units}
@@ -140,10 +142,6 @@ lt-place f (fin true m e) (fin true n d) h k u =
     ∙ down-down (overflow f) (unitsIn f (fin true m e)) (unitsIn f (fin true n d)) (units-small f (fin true m e) h) (units-small f (fin true n d) k)
 
 -- ---- `le` is not less the other way
-
-pub nan-less : (y : Float) → lt nan y ≡ false
-unfolding lt
-nan-less y = refl
 
 pub less-nan : (x : Float) → lt x nan ≡ false
 unfolding lt
@@ -285,9 +283,6 @@ lt-irrefl x l = lt-asym x x l l
 pub le-self : (x : Float) → T (not (isNan x)) → T (le x x)
 le-self x h = not-lt→le x x h h (not-T (lt x x) (lt-irrefl x))
 
-pub eq-self : (x : Float) → T (not (isNan x)) → T (eq x x)
-eq-self x h = le-antisym x x (le-self x h) (le-self x h)
-
 -- ---- the infinities are the ends
 
 pub lowest : (z : Float) → T (not (isNan z)) → T (le (inf true) z)
@@ -403,12 +398,6 @@ zero-held : (f : Format) → T (fits f constants.zero)
 unfolding fits ofBits
 zero-held f = tt
 
-pub finite-of-zero : (x : Float) → T (eq x constants.zero) → T (finite x)
-unfolding eq ofBits
-finite-of-zero nan e = e
-finite-of-zero (inf s) e = e
-finite-of-zero (fin s m d) e = tt
-
 -- what is equal to 0 is the zero of its sign
 pub zero-of-eq : (f : Format) (x : Float) → T (fits f x) → T (eq x constants.zero) → x ≡ fin (sign x) 0 (pos 0)
 unfolding eq ofBits
@@ -420,17 +409,6 @@ zero-of-eq f (fin s (suc m) e) h l =
   where
     none : (a b : ℕ) → 0 < a → b ≡ 0 → a * 1 ≡ b → ⊥
     none a b h k e = omega arith
-
--- what lies between a zero and its opposite is a zero
-pub between-zeros : (f : Format) (z x : Float) → T (fits f z) → T (fits f x) → T (eq z constants.zero) → T (le (neg z) x) → T (le x z) → T (eq x constants.zero)
-between-zeros f z x h k e p q =
-    let o = constants.zero in
-    le-antisym x o (le-trans f x z o k h (zero-held f) q (eq→le z o e))
-    (le-trans f o (neg z) x (zero-held f) (neg-fits f z h) k (subst (λ (w : Float). T (le o (neg w))) (sym (zero-of-eq f z h e)) (opposite-zero (sign z))) p)
-  where
-    opposite-zero : (s : Bool) → T (le constants.zero (neg (fin s 0 (pos 0))))
-    opposite-zero true = unfold le ofBits neg in tt
-    opposite-zero false = unfold le ofBits neg in tt
 
 zero-up : (e : ℤ) → T (eq (fin true zero e) constants.zero)
 unfolding eq ofBits

@@ -1,4 +1,5 @@
--- The packed digits are the root: of a value significand * 2 ^ (2 * h) / 2 ^ g, where the root R of significand * 2 ^ j has one digit more than the format keeps, the bits h * hid + (R + 1) / 2
+-- The packed digits are the root: of a value significand * 2 ^ (2 * h) / 2 ^ g, where the root R of significand * 2 ^ j
+-- has one digit more than the format keeps, the bits h * hid + (R + 1) / 2
 -- are the root's. g + j is twice the exponent of the units that `rootIn` counts in. Assumes nothing.
 use mathlib.Core.Path.{_≡_, sym, ap, _∙_, subst}
 use mathlib.Core.Bool.{true, false, true≢false}

@@ -1,4 +1,5 @@
--- A value by the fields of its bits: h * hid + q, with q between hid and twice hid, are the bits of q * 2 ^ h of the format's smallest values; and a value above zero is what its fields say.
+-- A value by the fields of its bits: h * hid + q, with q between hid and twice hid, are the bits of q * 2 ^ h of the
+-- format's smallest values; and a value above zero is what its fields say.
 -- Assumes nothing.
 use mathlib.Core.Path.{_≡_, refl, sym, ap, _∙_, subst}
 use mathlib.Core.Bool.{Bool, true, false, not, cond}

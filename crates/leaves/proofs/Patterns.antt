@@ -1,4 +1,5 @@
--- Laws about NaNs: a pattern is a NaN's where it stands for `nan`, and a value that equals itself is no NaN. What is rounded is none, nor is a number plus a finite one, nor one over a number.
+-- Laws about NaNs: a pattern is a NaN's where it stands for `nan`, and a value that equals itself is no NaN. What is
+-- rounded is none, nor is a number plus a finite one, nor one over a number.
 use mathlib.Core.Path.{_≡_, refl, sym, _∙_, subst}
 use mathlib.Core.Bool.{Bool, true, false, not, cond, _&&_, Bool·beq, true≢false}
 use Prim.Native.Nat.{ℕ, zero, suc, _+_, _-_, _*_, _/_, _^_}

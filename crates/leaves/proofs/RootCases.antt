@@ -1,4 +1,5 @@
--- The root where it is not of a value above zero: a negative value has none, and zeros, which keep their sign, and a NaN are their own. Assumes nothing.
+-- The root where it is not of a value above zero: a negative value has none, and zeros, which keep their sign, and a
+-- NaN are their own. Assumes nothing.
 use mathlib.Core.Path.{_≡_, refl}
 use mathlib.Core.Bool.{true, false, not}
 use Prim.Native.Nat.{ℕ, zero, suc, _+_, _*_, _<_}

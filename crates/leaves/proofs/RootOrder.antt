@@ -1,4 +1,5 @@
--- The root keeps the order, so the least of two roots is the root of the lesser, and the greatest that of the greater; it is -0 only of -0 and never negative. Here "no sign" is said of a NaN too.
+-- The root keeps the order, so the least of two roots is the root of the lesser, and the greatest that of the greater;
+-- it is -0 only of -0 and never negative. Here "no sign" is said of a NaN too.
 -- Assumes nothing.
 use mathlib.Core.Path.{_≡_, refl, sym, _∙_, subst}
 use mathlib.Core.Bool.{Bool, true, false, not, cond, true≢false}
@@ -19,10 +20,10 @@ use Rattle.leaves.specs.Root.{rounded, rootIn}
 use Rattle.leaves.proofs.Values.{unitsIn, sign, zero-value, zero-units, units-zero, units-small}
 use Rattle.leaves.proofs.WholeRoots.{halves, halves-mono}
 use Rattle.leaves.proofs.Rounding.{rounded-is}
-use Rattle.leaves.proofs.RootCases.{zero-not-above, none-below}
+use Rattle.leaves.proofs.RootCases.{none-below}
 use Rattle.leaves.proofs.Roots.{rootUnits, root-value, root-held, root-is-rounded, some-units}
 use Rattle.leaves.proofs.Signs.{round-sign, clear-of-sign}
-use Rattle.leaves.proofs.Order.{minusZero, lt-left, lt-right, le-left, le-right, le→place, le→not-lt, lt→le, not-lt→le, same}
+use Rattle.leaves.proofs.Order.{lt-left, lt-right, le-left, le-right, le→place, le→not-lt, lt→le, not-lt→le, same}
 
 -- ---- the order
 
@@ -104,17 +105,6 @@ root-unsigned f (fin true (suc m) e) s = refl
 root-unsigned f (fin false zero e) s = refl
 root-unsigned f (fin false (suc m) e) s = unfold rounded in round-sign f false _ _
 
--- the root is -0 only of -0
-pub root-clear : (f : Format) (x : Float) → T (not (minusZero x)) → T (not (minusZero (rootIn f x)))
-unfolding rootIn
-root-clear f nan h = tt
-root-clear f (inf true) h = tt
-root-clear f (inf false) h = tt
-root-clear f (fin true zero e) h = absurd h
-root-clear f (fin true (suc m) e) h = tt
-root-clear f (fin false zero e) h = tt
-root-clear f (fin false (suc m) e) h = clear-of-sign (rootIn f (fin false (suc m) e)) (root-unsigned f (fin false (suc m) e) refl)
-
 -- so a root of a value without a sign is not less than zero
 pub unsigned-not-negative : (x : Float) → sign x ≡ false → T (lt x (fin false zero (pos 0))) → ⊥
 unfolding lt
@@ -122,16 +112,6 @@ unsigned-not-negative nan s h = h
 unsigned-not-negative (inf t) s h = true≢false (sym (is-true t h) ∙ s)
 unsigned-not-negative (fin true m e) s h = true≢false s
 unsigned-not-negative (fin false m e) s h = none-below (m * up e * 1) (down e) h
-
-pub root-not-negative : (f : Format) (x : Float) → T (lt (rootIn f x) (fin false zero (pos 0))) → ⊥
-unfolding rootIn
-root-not-negative f nan h = unsigned-not-negative nan refl h
-root-not-negative f (inf true) h = unsigned-not-negative nan refl h
-root-not-negative f (inf false) h = unsigned-not-negative (inf false) refl h
-root-not-negative f (fin true zero e) h = unfold lt in zero-not-above (up e) (down e) h
-root-not-negative f (fin true (suc m) e) h = unsigned-not-negative nan refl h
-root-not-negative f (fin false zero e) h = unsigned-not-negative (fin false zero e) refl h
-root-not-negative f (fin false (suc m) e) h = unsigned-not-negative (rootIn f (fin false (suc m) e)) (root-unsigned f (fin false (suc m) e) refl) h
 
 -- ---- two roots of values without a sign
 
@@ -154,14 +134,6 @@ module _ (f : Format) (a b : Float) (p : T (fits f a)) (q : T (fits f b)) (s : s
       T-not (lt (rootIn f b) (rootIn f a))
       (le→not-lt (rootIn f a) (rootIn f b) (root-mono f a b p q s (not-lt→le b a (number-of-root f b (lt-left (rootIn f b) (rootIn f a) l)) (number-of-root f a (lt-right (rootIn f b) (rootIn f a) l)) n)))
       l
-
-  -- of two values the one with the lesser root is the lesser
-  pub lt-of-roots : T (lt (rootIn f b) (rootIn f a)) → T (lt b a)
-  lt-of-roots l = go (lt b a) (λ n. not-less-roots n l)
-    where
-      go : (c : Bool) → (T (not c) → ⊥) → T c
-      go true h = tt
-      go false h = h tt
 
   same-roots : T (lt b a) → T (not (lt (rootIn f b) (rootIn f a))) → rootIn f a ≡ rootIn f b
   same-roots l n =

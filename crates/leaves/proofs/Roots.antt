@@ -1,6 +1,9 @@
--- "Root: IEEE 754 square root, nearest, ties to even." For every finite value above zero no value of the format is nearer to the exact root than `rootIn` gives (`root-nearest`),
--- and a value with that property is what `rootIn` gives (`root-only`): so there is never a tie. A value whose square is x exactly is the root of x (`root-exact`).
--- X is x in units of the smallest value, n = X * 2 ^ (low + 2) the number whose whole root r is taken, in half units, and G the root in units. Assumes nothing.
+-- "Root: IEEE 754 square root, nearest, ties to even." For every finite value above zero no value of the format is
+-- nearer to the exact root than `rootIn` gives (`root-nearest`),
+-- and a value with that property is what `rootIn` gives (`root-only`): so there is never a tie. A value whose square is
+-- x exactly is the root of x (`root-exact`).
+-- X is x in units of the smallest value, n = X * 2 ^ (low + 2) the number whose whole root r is taken, in half units,
+-- and G the root in units. Assumes nothing.
 use mathlib.Core.Path.{_≡_, refl, sym, ap, _∙_, subst}
 use mathlib.Core.Logic.{inl, inr}
 use mathlib.Core.Bool.{Bool, true, false, not, true≢false}
@@ -399,7 +402,8 @@ module _ (f : Format) (x : Float) (m : ℕ) (e : ℤ) (g-held : T (fits f (fin f
   root-exact held p = root-only f x (fin false m e) held p (record { held = g-held; number = tt; none-nearer = none-nearer-than-exact })
 
 -- ---- the same of f64, as the contract of `root` names it
--- "Root: IEEE 754 square root, nearest, ties to even": of a finite x above 0, `rootOf x` is the nearest f64 to the exact root, and the only one, so no tie is left to break.
+-- "Root: IEEE 754 square root, nearest, ties to even": of a finite x above 0, `rootOf x` is the nearest f64 to the
+-- exact root, and the only one, so no tie is left to break.
 
 pub f64-root-nearest : (x : Float) → T (fits binary64 x) → T (positive x) → NearestRoot binary64 x (rootOf x)
 unfolding rootOf

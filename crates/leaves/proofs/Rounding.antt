@@ -1,5 +1,7 @@
--- What `round` of a root's fraction gives. n is S * p * p with p = 2 ^ h, and R the whole root of S, which has one digit more than the format keeps. Then the kept number is
--- (R + 1) / 2, in steps of p of the format's smallest value: R's last digit is what is rounded, and it is never a tie, since R is odd there and S is no square of an odd number.
+-- What `round` of a root's fraction gives. n is S * p * p with p = 2 ^ h, and R the whole root of S, which has one
+-- digit more than the format keeps. Then the kept number is
+-- (R + 1) / 2, in steps of p of the format's smallest value: R's last digit is what is rounded, and it is never a tie,
+-- since R is odd there and S is no square of an odd number.
 -- Assumes nothing.
 use mathlib.Core.Path.{_≡_, refl, sym, ap, _∙_, subst}
 use mathlib.Core.Logic.{inl, inr}

@@ -1,19 +1,19 @@
--- Products with and quotients by a value that is finite and above 0. Such a value is what the tests of a program say of it. It leaves an infinity and every sign as they are, and makes of a finite
+-- Products with and quotients by a value that is finite and above 0. Such a value is what the tests of a program say of
+-- it. It leaves an infinity and every sign as they are, and makes of a finite
 -- value one fraction, which is rounded once. A zero stays the zero of its sign; a product with 0 is one.
-use mathlib.Core.Path.{_≡_, refl, sym, ap, _∙_, subst}
-use mathlib.Core.Bool.{Bool, true, false, not, cond}
+use mathlib.Core.Path.{_≡_, refl, ap, _∙_}
+use mathlib.Core.Bool.{Bool, true, false, cond}
 use Prim.Native.Nat.{ℕ, _*_, _<_}
-use native.Mathlib.Nat.{mul-comm, mul-pos, mul-zero, zero-lt-suc, zero-mul}
+use native.Mathlib.Nat.{mul-comm, mul-pos, mul-zero, zero-lt-suc}
 use native.Mathlib.Omega.{arith}
 use lib.IntN.{ℤ, pos}
 use lib.Dec.{T, ltb, eqb, eqb→eq, lt→ltb, ltb→lt}
-use lib.Ieee.{Float, nan, inf, fin, Format, up, down, ofBits, round, neg, mul, div, unlike, lt, le}
+use lib.Ieee.{Float, nan, inf, fin, Format, up, down, ofBits, round, mul, div, unlike, lt}
 use lib.Ieee.Fits.{down-pos}
 use lib.Ieee.Positive.{positive, num, den, den-pos, first-pos, own-value, value-pos}
 use lib.Ieee.Scale.{finite}
 use Rattle.leaves.specs.Constants as constants
-use Rattle.leaves.proofs.Order.{between-finite, lt→le}
-use Rattle.leaves.proofs.Signs.{neg-round, round-of-none, round-sign}
+use Rattle.leaves.proofs.Signs.{round-of-none, round-sign}
 use Rattle.leaves.proofs.Values.{sign}
 
 -- ---- a value that is finite and above zero, by tests
@@ -27,12 +27,6 @@ positive-of-lt (fin false n d) h l = lt→ltb 0 n (first-pos n (up d) (first-pos
   where
     some : (a b : ℕ) → a < b → 0 < b
     some a b h = omega arith
-
-pub positive-of-tests : (limit p : Float) → T (finite limit) → T (lt constants.zero p) → T (le p limit) → T (positive p)
-positive-of-tests limit p h l k = positive-of-lt p (between-finite constants.zero p limit zero-finite h (lt→le constants.zero p l) k) l
-  where
-    zero-finite : T (finite constants.zero)
-    zero-finite = unfold ofBits in tt
 
 pub size-above : (p : Float) → T (positive p) → 0 < num p
 size-above p h = value-pos p (num p) (den p) h (den-pos p) (own-value p h)
@@ -84,27 +78,10 @@ div-of-finite f (fin false n d) h s m e =
     ∙ ap (λ (t : Bool). round f t (m * up e * down d) (n * up d * down e)) (like s)
     ∙ ap (round f s (m * up e * down d)) (mul-comm (n * up d) (down e))
 
--- only a finite value has a finite quotient
-pub finite-of-div : (f : Format) (x p : Float) → T (positive p) → T (finite (div f x p)) → T (finite x)
-finite-of-div f nan p h k = unfold div in k
-finite-of-div f (inf s) p h k = subst (λ (q : Float). T (finite q)) (div-of-inf f p h s) k
-finite-of-div f (fin s m e) p h k = tt
-
 -- ---- the sign
 
 pub div-sign : (f : Format) (p : Float) → T (positive p) → (s : Bool) (m : ℕ) (e : ℤ) → sign (div f (fin s m e) p) ≡ s
 div-sign f p h s m e = ap sign (div-of-finite f p h s m e) ∙ round-sign f s (m * up e * den p) (down e * num p)
-
-pub div-neg : (f : Format) (x p : Float) → T (positive p) → div f (neg x) p ≡ neg (div f x p)
-unfolding neg
-div-neg f nan p h = unfold div in refl
-div-neg f (inf s) p h = div-of-inf f p h (not s) ∙ ap neg (sym (div-of-inf f p h s))
-div-neg f (fin s m e) p h = div-of-finite f p h (not s) m e ∙ neg-round f s (m * up e * den p) (down e * num p) ∙ ap neg (sym (div-of-finite f p h s m e))
-
--- ---- zeros
-
-pub mul-of-zero : (f : Format) (p : Float) → T (positive p) → (s : Bool) → mul f (fin s 0 (pos 0)) p ≡ fin s 0 (pos 0)
-mul-of-zero f p h s = mul-of-finite f p h s 0 (pos 0) ∙ ap (λ (a : ℕ). round f s a (1 * den p)) (zero-mul (num p)) ∙ round-of-none f s (1 * den p) (mul-pos (zero-lt-suc 0) (den-pos p))
 
 pub mul-by-zero : (f : Format) (s : Bool) (m : ℕ) (e : ℤ) → mul f (fin s m e) constants.zero ≡ fin s 0 (pos 0)
 unfolding mul ofBits

@@ -1,6 +1,9 @@
--- Which operations give no -0 and no negative value. A sum whose first part is not -0 is not -0: the exact sum of two values that a format holds is a whole number of the
--- format's smallest value, so where it is not 0 it does not round to 0, and an exact 0 is -0 only where both parts are negative. A square, and a sum of two values that are not negative, has no sign.
--- Of the other sign a fraction rounds to the same magnitude, and 0 to the zero of its sign. A zero of either sign adds the same to a value without a sign.
+-- Which operations give no -0 and no negative value. A sum whose first part is not -0 is not -0: the exact sum of two
+-- values that a format holds is a whole number of the
+-- format's smallest value, so where it is not 0 it does not round to 0, and an exact 0 is -0 only where both parts are
+-- negative. A square, and a sum of two values that are not negative, has no sign.
+-- Of the other sign a fraction rounds to the same magnitude, and 0 to the zero of its sign. A zero of either sign adds
+-- the same to a value without a sign.
 use mathlib.Core.Path.{_≡_, refl, sym, ap, ap₂, _∙_, subst}
 use mathlib.Core.Bool.{Bool, true, false, not, _&&_, cond, true≢false}
 use Prim.Native.Nat.{ℕ, zero, suc, _+_, _-_, _*_, _/_, _%_, _^_, _≤_, _<_, compare}
@@ -169,10 +172,6 @@ not-second false b h = tt
 pub add-clear : (f : Format) (x y : Float) → T (fits f x) → T (fits f y) → T (not (minusZero x)) → T (not (minusZero (add f x y)))
 add-clear f x y h k z = sum-of-clear f x y h k (not-first (minusZero x) (minusZero y) z)
 
-pub sub-clear : (f : Format) (x y : Float) → T (fits f x) → T (fits f y) → T (not (minusZero x)) → T (not (minusZero (sub f x y)))
-unfolding sub
-sub-clear f x y h k z = add-clear f x (neg y) h (neg-fits f y k) z
-
 -- nor where y is not, or is not +0 in a difference
 pub add-clear-second : (f : Format) (x y : Float) → T (fits f x) → T (fits f y) → T (not (minusZero y)) → T (not (minusZero (add f x y)))
 add-clear-second f x y h k z = sum-of-clear f x y h k (not-second (minusZero x) (minusZero y) z)
@@ -227,6 +226,3 @@ square-positive f (inf true) = refl
 square-positive f (inf false) = refl
 square-positive f (fin true m e) = round-sign f false (m * up e * (m * up e)) (down e * down e)
 square-positive f (fin false m e) = round-sign f false (m * up e * (m * up e)) (down e * down e)
-
-pub square-clear : (f : Format) (x : Float) → T (not (minusZero (mul f x x)))
-square-clear f x = clear-of-sign (mul f x x) (square-positive f x)

@@ -1,4 +1,5 @@
--- The turn of rule 1 is a value of the format, and never -0: a difference is -0 only where the first is -0 and the second +0, and PI is not. Assumes nothing.
+-- The turn of rule 1 is a value of the format, and never -0: a difference is -0 only where the first is -0 and the
+-- second +0, and PI is not. Assumes nothing.
 -- Nor does a remainder by TAU ask anything to be a value of the format; a finite number's is no NaN.
 use mathlib.Core.Path.{_≡_, refl, sym, subst}
 use mathlib.Core.Bool.{Bool, true, false, not, cond}

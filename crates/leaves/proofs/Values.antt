@@ -1,5 +1,7 @@
--- Every finite value that a format holds is a whole number of the format's smallest value, 2 ^ -low: that number and the sign give the value.
--- So two values that fit and have the same value are the same. From 2 ^ (prec - 1 + k) units on the values are multiples of 2 ^ k units.
+-- Every finite value that a format holds is a whole number of the format's smallest value, 2 ^ -low: that number and
+-- the sign give the value.
+-- So two values that fit and have the same value are the same. From 2 ^ (prec - 1 + k) units on the values are
+-- multiples of 2 ^ k units.
 use mathlib.Core.Path.{_≡_, refl, sym, ap, _∙_, subst}
 use mathlib.Core.Bool.{Bool, false, _&&_, cond}
 use Prim.Native.Nat.{ℕ, zero, suc, _+_, _-_, _*_, _/_, _%_, _^_, _≤_, _<_}

@@ -1,4 +1,5 @@
--- The whole part of a root: `wholeRoot n` is the one r with r * r ≤ n < (r + 1) * (r + 1). It grows with n, and so does the fraction that `rounded` hands on.
+-- The whole part of a root: `wholeRoot n` is the one r with r * r ≤ n < (r + 1) * (r + 1). It grows with n, and so does
+-- the fraction that `rounded` hands on.
 -- Assumes nothing.
 use mathlib.Core.Path.{_≡_, refl, ap, _∙_, subst}
 use mathlib.Core.Logic.{_⊎_, inl, inr}

@@ -1,11 +1,13 @@
--- The rounding to a whole number. A value's magnitude is a fraction a / c, and `roundIn` gives it the whole number q with 2a - c < 2qc ≤ 2a + c: q is no more than a half away from a / c.
--- So no whole number is nearer, and of two that are as near q is the one further from zero. Below 2 ^ prec the format holds every whole number, and a value beyond has no fraction and is
+-- The rounding to a whole number. A value's magnitude is a fraction a / c, and `roundIn` gives it the whole number q
+-- with 2a - c < 2qc ≤ 2a + c: q is no more than a half away from a / c.
+-- So no whole number is nearer, and of two that are as near q is the one further from zero. Below 2 ^ prec the format
+-- holds every whole number, and a value beyond has no fraction and is
 -- its own q: so the format holds q, and nothing is rounded a second time.
 use mathlib.Core.Path.{_≡_, refl, sym, ap, ap₂, _∙_, subst}
 use mathlib.Core.Logic.{inl, inr}
 use mathlib.Core.Bool.{Bool, true, false}
-use Prim.Native.Nat.{ℕ, zero, suc, _+_, _*_, _/_, _^_, _≤_, _<_, zero-le, suc-le-suc}
-use native.Mathlib.Nat.{add-mul, div-lt-iff-lt-mul, div-mul-le-self, div-one, eq-of-mul-eq-mul-right, eq-or-lt-of-le, eq-zero-or-pos, le-antisymm, le-of-eq, le-of-lt, le-refl, le-trans, lt-irrefl, lt-of-lt-of-le, lt-of-not-le, mul-assoc, mul-comm, mul-le-mul-left, mul-le-mul-right, mul-left-comm, mul-mul-mul-comm, mul-one, mul-pos, suc-mul, zero-div, zero-lt-suc, zero-mul}
+use Prim.Native.Nat.{ℕ, suc, _+_, _*_, _/_, _^_, _≤_, _<_, zero-le, suc-le-suc}
+use native.Mathlib.Nat.{add-mul, div-lt-iff-lt-mul, div-mul-le-self, div-one, eq-or-lt-of-le, eq-zero-or-pos, le-antisymm, le-of-eq, le-of-lt, le-refl, le-trans, lt-irrefl, lt-of-lt-of-le, lt-of-not-le, mul-assoc, mul-comm, mul-le-mul-left, mul-le-mul-right, mul-left-comm, mul-mul-mul-comm, mul-one, mul-pos, suc-mul, zero-div, zero-lt-suc, zero-mul}
 use native.Mathlib.Decide.{decLe}
 use native.Mathlib.Omega.{arith}
 use lib.IntN.{ℤ, pos, negsuc}
@@ -16,15 +18,15 @@ use lib.Ieee.Back.{round-whole, whole-unique}
 use lib.Ieee.Exact.{HasValue, round-exact}
 use lib.Ieee.Fits.{down-pos, round-fits as rounded-fits}
 use lib.Ieee.Nearest.{div-mono}
-use lib.Ieee.Scale.{finite, overflow}
+use lib.Ieee.Scale.{overflow}
 use Rattle.leaves.specs.Nearest.{gap, NearestWhole}
 use Rattle.leaves.specs.Round.{nearestWhole, roundIn, roundOf}
 use Rattle.leaves.proofs.Fractions.{Ordered, le→ordered, none-left, ordered-scaled}
 use Rattle.leaves.proofs.Monotone.{round-number, round-ordered}
-use Rattle.leaves.proofs.Order.{highest, lowest, minusZero}
+use Rattle.leaves.proofs.Order.{highest, lowest}
 use Rattle.leaves.proofs.Packing.{prec-hid}
-use Rattle.leaves.proofs.Signs.{neg-round, round-sign}
-use Rattle.leaves.proofs.Values.{held, sign, units-small, units-zero, unitsIn}
+use Rattle.leaves.proofs.Signs.{neg-round}
+use Rattle.leaves.proofs.Values.{held, units-small, units-zero, unitsIn}
 
 -- ---- a whole number within a half
 
@@ -140,30 +142,6 @@ round-neg f nan = refl
 round-neg f (inf s) = refl
 round-neg f (fin s m e) = neg-round f s (nearestWhole (m * up e) (down e)) 1
 
-pub round-keeps-sign : (f : Format) (x : Float) → sign (roundIn f x) ≡ sign x
-unfolding roundIn
-round-keeps-sign f nan = refl
-round-keeps-sign f (inf s) = refl
-round-keeps-sign f (fin s m e) = round-sign f s (nearestWhole (m * up e) (down e)) 1
-
--- ---- -0
-
-zero-value : (x : Float) (s : Bool) (q : ℕ) → HasValue x s q 1 → T (minusZero x) → (s ≡ true) × (q ≡ 0)
-zero-value nan s q v t = absurd t
-zero-value (inf u) s q v t = absurd t
-zero-value (fin false m e) s q v t = absurd t
-zero-value (fin true (suc m) e) s q v t = absurd t
-zero-value (fin true zero e) s q v t = (sym (v .0), eq-of-mul-eq-mul-right (down e) (down-pos e) q 0 (sym (v .1) ∙ ap (λ (x : ℕ). x * 1) (zero-mul (up e)) ∙ sym (zero-mul (down e))))
-
--- the answer is -0 only for -0 itself and what lies between -1/2 and it
-pub round-minus-zero : (f : Format) (s : Bool) (m : ℕ) (e : ℤ) → T (fits f (fin s m e)) → T (minusZero (roundIn f (fin s m e))) → (s ≡ true) × (2 * (m * up e) < down e)
-round-minus-zero f s m e h t =
-    let z = zero-value (roundIn f (fin s m e)) s (nearestWhole (m * up e) (down e)) (round-value f s m e h) t in
-    (z .0, go (nearestWhole (m * up e) (down e)) (z .1) (past (m * up e) (down e) (down-pos e)))
-  where
-    go : (q : ℕ) → q ≡ 0 → 2 * (m * up e) < 2 * (q * down e) + down e → 2 * (m * up e) < down e
-    go q z l = omega (arith, ap (λ (x : ℕ). x * down e) z, zero-mul (down e))
-
 -- ---- the order: a larger value rounds to no smaller one
 
 nearest-mono : (a c b d : ℕ) → 0 < c → 0 < d → a * d ≤ b * c → nearestWhole a c ≤ nearestWhole b d
@@ -201,25 +179,6 @@ round-mono f (fin s m e) (fin t n d) l =
 
 -- ---- the same of `roundOf`
 
-pub f64-round-fits : (x : Float) → T (fits binary64 (roundOf x))
-unfolding roundOf
-f64-round-fits x = round-fits binary64 x
-
-pub f64-round-neg : (x : Float) → roundOf (neg x) ≡ neg (roundOf x)
-unfolding roundOf
-f64-round-neg x = round-neg binary64 x
-
-pub f64-round-keeps-sign : (x : Float) → sign (roundOf x) ≡ sign x
-unfolding roundOf
-f64-round-keeps-sign x = round-keeps-sign binary64 x
-
 pub f64-round-mono : (x y : Float) → T (le x y) → T (le (roundOf x) (roundOf y))
 unfolding roundOf
 f64-round-mono x y l = round-mono binary64 x y l
-
--- only a finite value has a finite one
-pub f64-round-finite : (x : Float) → T (finite (roundOf x)) → T (finite x)
-unfolding roundOf roundIn
-f64-round-finite nan h = h
-f64-round-finite (inf s) h = h
-f64-round-finite (fin s m e) h = tt

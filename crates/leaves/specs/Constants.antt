@@ -1,4 +1,5 @@
--- Document 01, "Number leaves": PI and TAU by their bits. Every decimal constant of document 01, and of the Rust that it leans on, as its fraction rounded once.
+-- Document 01, "Number leaves": PI and TAU by their bits. Every decimal constant of document 01, and of the Rust that
+-- it leans on, as its fraction rounded once.
 use mathlib.Core.Bool.{false}
 use Prim.Native.Nat.{ℕ, _^_}
 use lib.Ieee.{Float, binary64, ofBits, round}

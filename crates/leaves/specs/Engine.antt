@@ -13,7 +13,8 @@ pub record RootOfFraction (r : Float) (num places : ℕ) : Type 0 where
   pub is : (x : Float) → HasValue x false num (2 ^ places) → r ≡ rootOf x
 
 -- ---- what the digit engine is handed, and what it gives
--- root holds the digits found so far, in their places, and `places` digits are still to be found; rest * 2 ^ places is twice what is left of the radicand.
+-- root holds the digits found so far, in their places, and `places` digits are still to be found; rest * 2 ^ places is
+-- twice what is left of the radicand.
 
 abbrev pub radicand : ℕ → ℕ → ℕ → ℕ
 radicand root places rest = root * root + rest * 2 ^ places / 2

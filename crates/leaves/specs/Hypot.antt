@@ -1,5 +1,6 @@
 -- Document 01, "hypot(a, b): root of (a×a + b×b), each operation rounded. Three terms: hypot(hypot(a, b), c)".
--- The key of a pair of differences is what its hypotenuse is the root of. Layers above compare keys and take the hypotenuse of one; they know neither definition.
+-- The key of a pair of differences is what its hypotenuse is the root of. Layers above compare keys and take the
+-- hypotenuse of one; they know neither definition.
 use lib.Ieee.{Float, binary64, add, mul}
 use Rattle.leaves.specs.Root.{rootOf}
 

@@ -1,5 +1,7 @@
--- What it says that a value is the one nearest to the exact root of x, and a whole number the one nearest to a value, without real numbers. Every value of a format is a whole number of the format's smallest
--- value, 2 ^ -low. In those units a sum of two values is a whole number too, and the midpoint of g and y lies above the root of x exactly where the square of their sum is above 4 * x.
+-- What it says that a value is the one nearest to the exact root of x, and a whole number the one nearest to a value,
+-- without real numbers. Every value of a format is a whole number of the format's smallest
+-- value, 2 ^ -low. In those units a sum of two values is a whole number too, and the midpoint of g and y lies above the
+-- root of x exactly where the square of their sum is above 4 * x.
 use mathlib.Core.Path.{_≡_}
 use mathlib.Core.Logic.{_⊎_}
 use mathlib.Core.Bool.{Bool, true, false}
@@ -36,7 +38,8 @@ sumUnits f (fin s m e) (fin t n d) = signedSum s (unitsIn f (fin s m e)) t (unit
 abbrev pub fourTimes : Format → Float → ℕ
 fourTimes f x = 4 * (unitsIn f x * 2 ^ low f)
 
--- y is nearer than g to the root of x: y is below g and the midpoint of the two is above the root, or y is above g and the midpoint is below the root
+-- y is nearer than g to the root of x: y is below g and the midpoint of the two is above the root, or y is above g and
+-- the midpoint is below the root
 abbrev pub Nearer : Format → Float → Float → Float → Type 0
 Nearer f x g y = (T (lt y g) × (fourTimes f x < sumUnits f y g * sumUnits f y g)) ⊎ (T (lt g y) × (sumUnits f y g * sumUnits f y g < fourTimes f x))
 
@@ -52,8 +55,10 @@ pub record NearestRoot (f : Format) (x g : Float) : Type 0 where
 abbrev pub gap : ℕ → ℕ → ℕ
 gap x y = (x - y) + (y - x)
 
--- r is the whole number q with the sign s, and q is the whole number nearest to a / c, halves away from zero: `near` and `away`, which no other number has both of.
--- A distance from a / c stands here c times, so that it is a natural number. That of the whole number n of the other sign is n * c + a.
+-- r is the whole number q with the sign s, and q is the whole number nearest to a / c, halves away from zero: `near`
+-- and `away`, which no other number has both of.
+-- A distance from a / c stands here c times, so that it is a natural number. That of the whole number n of the other
+-- sign is n * c + a.
 pub record NearestWhole (r : Float) (s : Bool) (a c q : ℕ) : Type 0 where
   pub value : HasValue r s q 1
   pub near : (n : ℕ) → gap (q * c) a ≤ gap (n * c) a

@@ -1,7 +1,9 @@
--- Document 01, "Root: IEEE 754 square root, nearest, ties to even; −0 gives −0, infinity itself; negative or NaN gives a NaN".
--- The exact root of a value above 0 is rounded once, by `lib.Ieee`'s `round`. It is handed over as a fraction that rounds as the root does:
--- the root's whole part r in units of half the format's smallest value, and half a unit more where the root is not whole. Every value
--- of the format and every midpoint of two of them is a whole number of those units, so the root lies on the same side of each as that fraction.
+-- Document 01, "Root: IEEE 754 square root, nearest, ties to even; −0 gives −0, infinity itself; negative or NaN gives
+-- a NaN".
+-- The exact root of a value above 0 is rounded once, by `lib.Ieee`'s `round`. It is handed over as a fraction that
+-- rounds as the root does: the root's whole part r in units of half the format's smallest value, and half a unit more
+-- where the root is not whole. Every value of the format and every midpoint of two of them is a whole number of those
+-- units, so the root lies on the same side of each as that fraction.
 -- proofs/Roots.antt shows that the answer is the nearest, and the only nearest, value.
 use mathlib.Core.Bool.{true, false, cond}
 use Prim.Native.Nat.{ℕ, zero, suc, _+_, _*_, _/_, _^_}

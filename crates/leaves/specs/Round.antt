@@ -1,5 +1,6 @@
 -- Document 01, "Round: nearest whole number, halves away from zero, sign of zero kept; infinity itself, NaN a NaN".
--- proofs/Wholes.antt shows that the answer is the nearest whole number, and of two that are as near the one further from zero.
+-- proofs/Wholes.antt shows that the answer is the nearest whole number, and of two that are as near the one further
+-- from zero.
 use Prim.Native.Nat.{ℕ, _+_, _*_, _/_}
 use lib.Ieee.{Float, nan, inf, fin, Format, binary64, up, down, round}
 
@@ -7,7 +8,8 @@ use lib.Ieee.{Float, nan, inf, fin, Format, binary64, up, down, round}
 abbrev pub nearestWhole : ℕ → ℕ → ℕ
 nearestWhole num den = (2 * num + den) / (2 * den)
 
--- the magnitude is rounded, and the sign kept: every such whole number is a value of the format, so `round` changes nothing
+-- the magnitude is rounded, and the sign kept: every such whole number is a value of the format, so `round` changes
+-- nothing
 unfoldable pub roundIn : Format → Float → Float
 unfolding round
 roundIn f nan = nan

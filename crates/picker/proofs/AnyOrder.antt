@@ -1,5 +1,7 @@
--- The rings of a sheet's content in another order, and the images of their points with them: every row of the picks' tables stays the same, bit for bit, where no coordinate and no deviation is -0.
--- So do the numbers of a call. A list of images of wrong length is refused by row 10 at the latest, so that no order of the rings matters to it.
+-- The rings of a sheet's content in another order, and the images of their points with them: every row of the picks'
+-- tables stays the same, bit for bit, where no coordinate and no deviation is -0.
+-- So do the numbers of a call. A list of images of wrong length is refused by row 10 at the latest, so that no order of
+-- the rings matters to it.
 use mathlib.Core.Path.{_≡_, refl, sym, ap, ap₂, _∙_}
 use mathlib.Core.Bool.{Bool, true, not, _||_, true≢false}
 use mathlib.Core.List.{List, [], _∷_, _++_, map, append-assoc, foldl-append, List·Permᴰ, List·Permᴰ·append-comm, Permᴰ·refl}
@@ -16,21 +18,28 @@ use Rattle.leaves.proofs.Choices.{larger-keeps, larger-swap}
 use Rattle.leaves.proofs.Folds.{All, all-append, fold-keeps, fold-perm}
 use Rattle.space.specs.declared.vectors.Place.{Place}
 use Rattle.sheet.specs.Content.{Point, point, Coedge, Sheet, ringPoints}
-use Rattle.sheet.specs.Checks.{Check, check, first, beyond, contentChecks}
+use Rattle.answers.specs.Outcome.{Check, check, first, Numbers, refused, settled}
+use Rattle.answers.specs.Limits.{beyond}
+use Rattle.sheet.specs.Checks.{contentChecks}
 use Rattle.sheet.proofs.BlockOrder.{withRings}
-use Rattle.sheet.proofs.Checked.{append-none, content-numbered, first-refused, none-fails}
-use Rattle.sheet.proofs.Permutations.{any-of-perm, map-perm, perm-length}
+use Rattle.answers.proofs.FirstCheck.{append-none, first-refused, none-fails}
+use Rattle.sheet.proofs.Checked.{content-numbered}
+use Rattle.answers.proofs.Permutations.{any-of-perm, map-perm, perm-length}
 use Rattle.sheet.proofs.Reading.{ClearPoint, ClearDeviation}
-use Rattle.sheet.specs.Outcome.{Numbers, refused, settled}
-use Rattle.chart.specs.Chart.{chosen, pointCount, phaseWrong, frameChecks, writtenPoint}
+use Rattle.chart.specs.Chart.{chosen, frameChecks}
+use Rattle.frame.specs.Framing.{pointCount, phaseWrong}
+use Rattle.points.specs.Written.{writtenPoint}
 use Rattle.chart.proofs.AnyOrder.{same-content, same-phase, same-count, moved-perm, same-chosen, same-frame-checks, same-answer}
-use Rattle.sheet.proofs.Settled.{settled-refused}
-use Rattle.picker.specs.Space.{physicalClearance}
-use Rattle.picker.specs.Images.{ringImages, lastImage}
-use Rattle.picker.specs.Physical.{deviates, greatestDeviation, eight, physicalLeast, tooClose, answeredAt}
+use Rattle.answers.proofs.Settled.{settled-refused}
+use Rattle.physical.specs.Space.{physicalClearance}
+use Rattle.physical.specs.Images.{ringImages}
+use Rattle.picker.specs.Images.{lastImage}
+use Rattle.physical.specs.Physical.{deviates, greatestDeviation, eight, physicalLeast, tooClose}
+use Rattle.picker.specs.Answered.{answeredAt}
 use Rattle.picker.specs.ImagePick.{imageLimit, imagesWrong, imageClose}
-use Rattle.picker.specs.PlanePick.{onPlane, planeImages, planePoint, noPlane, planeClose}
-use Rattle.picker.proofs.Nearness.{physical-perm}
+use Rattle.physical.specs.Plane.{onPlane, planeImagesOf}
+use Rattle.picker.specs.PlanePick.{planeImages, planePoint, noPlane, planeClose}
+use Rattle.physical.proofs.Nearness.{physical-perm}
 use Rattle.picker.proofs.Picks.{imageRows, planeRows}
 
 -- ---- the greatest deviation
@@ -105,7 +114,7 @@ module _ (z : Sheet) (rings : List (List Coedge)) (d : List·Permᴰ (z .rings) 
     same-point = ap (λ (n : Numbers). onPlane (z .plane) (point (n .x) (n .y))) (same-answer z rings d 0 points)
 
     plane-perm : List·Permᴰ (planeImages z) (planeImages z′)
-    unfolding planeImages
+    unfolding planeImages planeImagesOf
     plane-perm = map-perm (map (λ (p : Point). onPlane (z .plane) (writtenPoint 0 p))) (moved-perm z rings d 0)
 
     same-plane-close : planeClose z ≡ planeClose z′

@@ -1,5 +1,7 @@
--- Images that go with their blocks. The images of a list that is long enough, cut up by the blocks' own coedge counts and put together again with what stands behind them, are the list.
--- Put together in another order, they are cut up by the blocks in that order into the same parts: each ring has the images that it had, and what stands behind them stays.
+-- Images that go with their blocks. The images of a list that is long enough, cut up by the blocks' own coedge counts
+-- and put together again with what stands behind them, are the list.
+-- Put together in another order, they are cut up by the blocks in that order into the same parts: each ring has the
+-- images that it had, and what stands behind them stays.
 use mathlib.Core.Path.{_≡_, refl, sym, ap, ap₂, _∙_}
 use mathlib.Core.List.{List, [], _∷_, _++_, map, flatten, append-assoc}
 use Prim.Native.Nat.{ℕ, _+_, _*_, _≤_}
@@ -15,9 +17,10 @@ use Rattle.space.specs.declared.vectors.Place.{Place}
 use Rattle.sheet.specs.Content.{Sheet}
 use Rattle.sheet.specs.Layout.{ring}
 use Rattle.sheet.proofs.BlockOrder.{withRings}
-use Rattle.chart.specs.Chart.{pointCount}
-use Rattle.chart.proofs.Counting.{count-none, count-cons}
-use Rattle.picker.specs.Images.{imageNumbers, ringImages, lastImage}
+use Rattle.frame.specs.Framing.{pointCount}
+use Rattle.frame.proofs.Counting.{count-none, count-cons}
+use Rattle.physical.specs.Images.{imageNumbers, ringImages}
+use Rattle.picker.specs.Images.{lastImage}
 use Rattle.picker.specs.Demand.{Imaged, imaged}
 
 abbrev pub blockOf : Imaged → List ℕ

@@ -1,8 +1,12 @@
--- "Suppose a sheet passes every check through the joins. Then the answer is refusal 14 exactly when none of its 31 × 31 grid points is covered with computed clearance above 0.01. Otherwise the chosen point is
--- covered. Every other covered grid point has at most its clearance, and those with the same clearance come after it, u before v. An answer is this point's, with the coverage, clearance and count of document
+-- "Suppose a sheet passes every check through the joins. Then the answer is refusal 14 exactly when none of its 31 × 31
+-- grid points is covered with computed clearance above 0.01. Otherwise the chosen point is
+-- covered. Every other covered grid point has at most its clearance, and those with the same clearance come after it, u
+-- before v. An answer is this point's, with the coverage, clearance and count of document
 -- 01's rules 7 to 9."
--- Document 01, "Words of demand 3": these sentences "are meant of every call of chart, image pick or plane pick that passes the checks down to 13; where it isn't 14 the status is 0, save a pick's 15 where the
--- table gives it. The point answered is the chosen grid point's by the chart's formula or the plane stand-in; in image pick it is the last image, as the host gives it. All three report the chosen point's rule
+-- Document 01, "Words of demand 3": these sentences "are meant of every call of chart, image pick or plane pick that
+-- passes the checks down to 13; where it isn't 14 the status is 0, save a pick's 15 where the
+-- table gives it. The point answered is the chosen grid point's by the chart's formula or the plane stand-in; in image
+-- pick it is the last image, as the host gives it. All three report the chosen point's rule
 -- 8 clearance in u and v." Here the two picks: the rule of every call, with the one row 15 below 14.
 use mathlib.Core.Path.{_≡_, refl, _∙_}
 use mathlib.Core.Logic.{_↔_, _⊎_, ⊎-elim, ⊎-map}
@@ -12,20 +16,19 @@ use Prim.Native.Nat.{ℕ, _<_}
 use native.Mathlib.Omega.{arith}
 use lib.Ieee.{Float}
 use Rattle.space.specs.declared.vectors.Place.{Place}
-use Rattle.sheet.specs.Content.{point}
 use Rattle.sheet.specs.Layout.{sheetOf}
-use Rattle.sheet.specs.Checks.{Check, check, first}
-use Rattle.sheet.specs.Outcome.{refused}
-use Rattle.chart.specs.Chart.{answered, chosen, frame, noneClear}
-use Rattle.chart.specs.Demand.{Clearest, NoneServes, Passes, candidateAt, clearAt, coverAt, downTo}
-use Rattle.grid.specs.declared.candidate.Candidate.{Candidate}
+use Rattle.answers.specs.Outcome.{Check, check, first, refused}
+use Rattle.chart.specs.Chart.{chosen, noneClear}
+use Rattle.chart.specs.Demand.{Clearest, NoneServes, Passes, Rule, candidateAt, clearAt, coverAt, downTo}
+use Rattle.search.specs.declared.candidate.Candidate.{Candidate}
 use Rattle.chart.proofs.GridRule.{Call, grid-rule}
-use Rattle.sheet.proofs.Settled.{settled-last}
+use Rattle.answers.proofs.Settled.{settled-last}
 use Rattle.chart.proofs.Outcomes.{first-above, first-passes}
 use Rattle.picker.specs.Images.{lastImage}
 use Rattle.picker.specs.ImagePick.{imageChecks, imageClose, imagePickOf}
-use Rattle.picker.specs.Physical.{answeredAt, tooClose}
-use Rattle.picker.specs.PlanePick.{onPlane, planeChecks, planeImages, planePickOf}
+use Rattle.picker.specs.Answered.{answeredAt}
+use Rattle.picker.specs.PlanePick.{planeChecks, planePickOf}
+use Rattle.picker.specs.Demand.{imageAnswer, planeAnswer}
 use Rattle.picker.proofs.Picks.{Own, closeAt, image-checks-are, image-is, image-own, image-parted, imageRows, pick-numbered, pick-parted, pickChecks, pickOf, plane-checks-are, plane-is, plane-own, plane-parted, planeAt, planeRows}
 use Rattle.picker.proofs.Refusals.{image-pick-status, plane-pick-status}
 
@@ -71,14 +74,10 @@ later n = ⊎-map (λ e. e) (⊎-elim (λ e. omega arith) (λ e. omega arith))
 -- ---- image pick
 
 module _ (s : List ℕ) (phase : ℕ) (images : List Float) where
-  -- refusal 14 exactly where no grid point serves; otherwise 15 where the last image is too close, else status 0, with the last image, and the clearest covered grid point's clearance and the number of covered
+  -- refusal 14 exactly where no grid point serves; otherwise 15 where the last image is too close, else status 0, with
+  -- the last image, and the clearest covered grid point's clearance and the number of covered
   -- grid points
-  pub image-grid-rule : Passes 13 (imageChecks s phase images)
-      → ((imagePickOf s phase images .status ≡ 14) ↔ NoneServes (coverAt (sheetOf s) phase) (clearAt (sheetOf s) phase))
-      × ((NoneServes (coverAt (sheetOf s) phase) (clearAt (sheetOf s) phase) → ⊥)
-      → (i : ℕ) × (j : ℕ) × Clearest (coverAt (sheetOf s) phase) (clearAt (sheetOf s) phase) i j
-      × (imagePickOf s phase images
-      ≡ cond (imageClose (sheetOf s) images) (refused 15) (answeredAt (lastImage (sheetOf s) images) (candidateAt (coverAt (sheetOf s) phase) (clearAt (sheetOf s) phase) i j))))
+  pub image-grid-rule : Passes 13 (imageChecks s phase images) → Rule (sheetOf s) phase (imagePickOf s phase images) (imageAnswer (sheetOf s) images)
   image-grid-rule =
       rw (image-checks-are s phase images, image-is s phase images)
       (pick-grid-rule s (imageRows (sheetOf s) phase images) phase (image-own s phase images) (λ (c : Candidate). lastImage (sheetOf s) images) (λ (c : Candidate). imageClose (sheetOf s) images))
@@ -98,21 +97,10 @@ module _ (s : List ℕ) (phase : ℕ) (images : List Float) where
 -- ---- plane pick
 
 module _ (s : List ℕ) where
-  -- refusal 14 exactly where no grid point serves; otherwise 15 where the clearest covered grid point on the plane is too close, else status 0, with that point on the plane, its clearance and the number of
+  -- refusal 14 exactly where no grid point serves; otherwise 15 where the clearest covered grid point on the plane is
+  -- too close, else status 0, with that point on the plane, its clearance and the number of
   -- covered grid points
-  pub plane-grid-rule : Passes 13 (planeChecks s)
-      → ((planePickOf s .status ≡ 14) ↔ NoneServes (coverAt (sheetOf s) 0) (clearAt (sheetOf s) 0))
-      × ((NoneServes (coverAt (sheetOf s) 0) (clearAt (sheetOf s) 0) → ⊥)
-      → (i : ℕ) × (j : ℕ) × Clearest (coverAt (sheetOf s) 0) (clearAt (sheetOf s) 0) i j
-      × (planePickOf s
-      ≡ cond
-      (tooClose (sheetOf s)
-      (onPlane (sheetOf s .plane) (point (answered (frame (sheetOf s) 0) 0 (candidateAt (coverAt (sheetOf s) 0) (clearAt (sheetOf s) 0) i j) .x) (answered (frame (sheetOf s) 0) 0 (candidateAt (coverAt (sheetOf s) 0) (clearAt (sheetOf s) 0) i j) .y)))
-      (planeImages (sheetOf s)))
-      (refused 15)
-      (answeredAt
-      (onPlane (sheetOf s .plane) (point (answered (frame (sheetOf s) 0) 0 (candidateAt (coverAt (sheetOf s) 0) (clearAt (sheetOf s) 0) i j) .x) (answered (frame (sheetOf s) 0) 0 (candidateAt (coverAt (sheetOf s) 0) (clearAt (sheetOf s) 0) i j) .y)))
-      (candidateAt (coverAt (sheetOf s) 0) (clearAt (sheetOf s) 0) i j))))
+  pub plane-grid-rule : Passes 13 (planeChecks s) → Rule (sheetOf s) 0 (planePickOf s) (planeAnswer (sheetOf s))
   plane-grid-rule = rw (plane-checks-are s, plane-is s) (pick-grid-rule s (planeRows (sheetOf s)) 0 (plane-own s) (planeAt (sheetOf s)) (closeAt (sheetOf s)))
 
   pub plane-refused-above : (Passes 13 (planeChecks s) → ⊥) → planePickOf s .status ≡ first (downTo 13 (planeChecks s))

@@ -1,9 +1,5 @@
 -- Laws about the definitions of `picker`, by subject, and its theorems.
 
--- the least distance in space
-pub mod Nearness
--- the images on the sheet's plane
-pub mod OnPlane
 -- one pick of which both are instances; the calls
 pub mod Picks
 pub mod Calling

@@ -1,4 +1,5 @@
--- One pick of which image pick and plane pick are instances: the sheet's checks, those of the call between 7 and 11, the chart's from 11 on, and 15, then the point with the clearance and the count of the
+-- One pick of which image pick and plane pick are instances: the sheet's checks, those of the call between 7 and 11,
+-- the chart's from 11 on, and 15, then the point with the clearance and the count of the
 -- chosen grid point. Its status is the first check that fails, or 0, and where it is not 0 all else is zero.
 use mathlib.Core.Path.{_≡_, refl, sym, ap, _∙_, subst}
 use mathlib.Core.Bool.{Bool}
@@ -10,18 +11,22 @@ use Rattle.leaves.proofs.Folds.{All, all-append}
 use Rattle.space.specs.declared.vectors.Place.{Place}
 use Rattle.sheet.specs.Content.{point, Sheet}
 use Rattle.sheet.specs.Layout.{sheetOf}
-use Rattle.sheet.specs.Checks.{Check, check, first, layoutChecks, contentChecks}
-use Rattle.sheet.proofs.Checked.{Numbered, Within, content-numbered, content-within, layout-numbered, layout-within, within-up, first-most}
-use Rattle.sheet.specs.Outcome.{Numbers, refused, settled}
-use Rattle.chart.specs.Chart.{answered, chosen, frame, frameChecks, noneClear, phaseWrong}
+use Rattle.answers.specs.Outcome.{Check, check, first, Numbers, refused, settled}
+use Rattle.sheet.specs.Checks.{layoutChecks, contentChecks}
+use Rattle.answers.proofs.FirstCheck.{Numbered, Within, within-up, first-most}
+use Rattle.sheet.proofs.Checked.{content-numbered, content-within, layout-numbered, layout-within}
+use Rattle.chart.specs.Chart.{answered, chosen, frameChecks, noneClear}
+use Rattle.frame.specs.Framing.{frame, phaseWrong}
 use Rattle.chart.specs.Demand.{downTo}
-use Rattle.grid.specs.declared.candidate.Candidate.{Candidate}
-use Rattle.sheet.proofs.Settled.{settled-refused, settled-status}
+use Rattle.search.specs.declared.candidate.Candidate.{Candidate}
+use Rattle.answers.proofs.Settled.{settled-refused, settled-status}
 use Rattle.chart.proofs.Outcomes.{Parted, down-within, frame-numbered, frame-parted, parted}
 use Rattle.picker.specs.Images.{lastImage}
 use Rattle.picker.specs.ImagePick.{imageChecks, imageClose, imagePickOf, imagesWrong}
-use Rattle.picker.specs.Physical.{answeredAt, tooClose}
-use Rattle.picker.specs.PlanePick.{noPlane, onPlane, planeChecks, planeClose, planeImages, planePickOf, planePoint}
+use Rattle.picker.specs.Answered.{answeredAt}
+use Rattle.physical.specs.Physical.{tooClose}
+use Rattle.picker.specs.PlanePick.{noPlane, planeChecks, planeClose, planeImages, planePickOf, planePoint}
+use Rattle.physical.specs.Plane.{onPlane}
 
 -- the table of a pick with the rows `own` between 7 and 11
 unfoldable pub pickChecks : List ℕ → List Check → ℕ → Bool → List Check

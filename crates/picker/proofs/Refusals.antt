@@ -1,13 +1,14 @@
--- "The whole picker, from sheet reader to last clearance test, finishes on every input with a point or a numbered refusal." "A refusal gives zeros beside its number and leaves each lent list unwritten."
--- Here the two picks, on every list of bytes, every phase and every list of images: the status is the first of the call's checks that fails, or 0, and never above 15; where it is not 0 the five other numbers
+-- "The whole picker, from sheet reader to last clearance test, finishes on every input with a point or a numbered
+-- refusal." "A refusal gives zeros beside its number and leaves each lent list unwritten."
+-- Here the two picks, on every list of bytes, every phase and every list of images: the status is the first of the
+-- call's checks that fails, or 0, and never above 15; where it is not 0 the five other numbers
 -- are zeros. Neither pick is lent a list that it could write.
 use mathlib.Core.Path.{_≡_, sym, ap, _∙_}
 use mathlib.Core.List.{List}
 use Prim.Native.Nat.{ℕ, _≤_}
 use lib.Ieee.{Float}
 use Rattle.sheet.specs.Layout.{sheetOf}
-use Rattle.sheet.specs.Checks.{first}
-use Rattle.sheet.specs.Outcome.{Numbers, refused}
+use Rattle.answers.specs.Outcome.{first, Numbers, refused}
 use Rattle.chart.specs.Chart.{chosen}
 use Rattle.picker.specs.Images.{lastImage}
 use Rattle.picker.specs.ImagePick.{imageChecks, imageClose, imagePickOf}

@@ -1,6 +1,9 @@
--- "For every reordering of the rings of a sheet whose layout reads, images moved with them, chart, image pick and plane pick each give the same status, point, clearance and count, bit for bit."
--- Here the picks. The same ring blocks in another order, all else in the call the same: the layout reads, the blocks are those, and the six numbers do not change, whether the sheet is refused or not.
--- For image pick each ring's images go where its block goes and the last image stays; a list of images of wrong length stays as it is.
+-- "For every reordering of the rings of a sheet whose layout reads, images moved with them, chart, image pick and plane
+-- pick each give the same status, point, clearance and count, bit for bit."
+-- Here the picks. The same ring blocks in another order, all else in the call the same: the layout reads, the blocks
+-- are those, and the six numbers do not change, whether the sheet is refused or not.
+-- For image pick each ring's images go where its block goes and the last image stays; a list of images of wrong length
+-- stays as it is.
 use mathlib.Core.Path.{_≡_, sym, ap, _∙_, subst}
 use mathlib.Core.Bool.{Bool}
 use mathlib.Core.List.{List, [], _∷_, _++_, map, flatten, append-assoc, List·Permᴰ, Permᴰ·append-right}
@@ -14,14 +17,17 @@ use Rattle.space.specs.Places.{placeAt}
 use Rattle.space.specs.declared.vectors.Place.{Place}
 use Rattle.sheet.specs.Content.{Coedge, Sheet}
 use Rattle.sheet.specs.Layout.{head, blocks, ring, sheetOf}
-use Rattle.sheet.specs.Checks.{Check, check, first, layoutChecks, contentChecks}
+use Rattle.answers.specs.Outcome.{Check, check, first, settled}
+use Rattle.sheet.specs.Checks.{layoutChecks, contentChecks}
 use Rattle.sheet.proofs.BlockOrder.{deviations-clear, its-blocks, its-layout, its-rings, its-sheet, rings-are, rings-clear, whole, withRings}
-use Rattle.sheet.proofs.Checked.{first-passed, layout-numbered}
-use Rattle.sheet.proofs.Permutations.{flatten-perm, lift-perm, map-perm}
-use Rattle.sheet.specs.Outcome.{settled}
-use Rattle.chart.specs.Chart.{chosen, frameChecks, pointCount}
-use Rattle.picker.specs.Images.{lastImage, ringImages}
-use Rattle.picker.specs.Physical.{answeredAt}
+use Rattle.answers.proofs.FirstCheck.{first-passed}
+use Rattle.sheet.proofs.Checked.{layout-numbered}
+use Rattle.answers.proofs.Permutations.{flatten-perm, lift-perm, map-perm}
+use Rattle.chart.specs.Chart.{chosen, frameChecks}
+use Rattle.frame.specs.Framing.{pointCount}
+use Rattle.picker.specs.Images.{lastImage}
+use Rattle.physical.specs.Images.{ringImages}
+use Rattle.picker.specs.Answered.{answeredAt}
 use Rattle.picker.specs.ImagePick.{imageClose, imagePickOf}
 use Rattle.picker.specs.PlanePick.{planeClose, planePickOf, planePoint}
 use Rattle.picker.specs.Demand.{Imaged, imaged, imagesWith, sheetWith}

@@ -1,4 +1,5 @@
--- Document 01, "image pick (sheet, phase, image list of f64)": the table, read top to bottom, and the last image, "as the host gives it".
+-- Document 01, "image pick (sheet, phase, image list of f64)": the table, read top to bottom, and the last image, "as
+-- the host gives it".
 use mathlib.Core.Bool.{Bool, not, _||_}
 use mathlib.Core.List.{List, [], _∷_, _++_}
 use Prim.Native.Nat.{ℕ, _+_, _*_}
@@ -6,13 +7,17 @@ use lib.Dec.{eqb}
 use lib.Ieee.{Float, binary64, ofBits}
 use lib.ListN.{length}
 use Rattle.sheet.specs.Content.{Sheet}
-use Rattle.sheet.specs.Lists.{anyOf}
+use Rattle.answers.specs.Lists.{anyOf}
 use Rattle.sheet.specs.Layout.{sheetOf}
-use Rattle.sheet.specs.Checks.{Check, check, first, beyond, layoutChecks, contentChecks}
-use Rattle.sheet.specs.Outcome.{Numbers, settled}
-use Rattle.chart.specs.Chart.{chosen, pointCount, phaseWrong, frameChecks}
-use Rattle.picker.specs.Images.{ringImages, lastImage}
-use Rattle.picker.specs.Physical.{tooClose, answeredAt}
+use Rattle.answers.specs.Outcome.{Check, check, first, Numbers, settled}
+use Rattle.answers.specs.Limits.{beyond}
+use Rattle.sheet.specs.Checks.{layoutChecks, contentChecks}
+use Rattle.chart.specs.Chart.{chosen, frameChecks}
+use Rattle.frame.specs.Framing.{pointCount, phaseWrong}
+use Rattle.physical.specs.Images.{ringImages}
+use Rattle.physical.specs.Physical.{tooClose}
+use Rattle.picker.specs.Answered.{answeredAt}
+use Rattle.picker.specs.Images.{lastImage}
 
 -- 2^30
 abbrev pub imageLimit : Float
@@ -23,7 +28,7 @@ unfoldable pub imagesWrong : Sheet → List Float → Bool
 imagesWrong s images = not (eqb (length images) (3 * (pointCount s + 1))) || anyOf (beyond imageLimit) images
 
 unfoldable pub imageClose : Sheet → List Float → Bool
-unfolding tooClose ringImages lastImage
+unfolding lastImage
 imageClose s images = tooClose s (lastImage s images) (ringImages (s .rings) images)
 
 unfoldable pub imageChecks : List ℕ → ℕ → List Float → List Check

@@ -1,6 +1,5 @@
-pub mod Space
+pub mod Answered
 pub mod Images
-pub mod Physical
 pub mod ImagePick
 pub mod PlanePick
 pub mod Stages

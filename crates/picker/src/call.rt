@@ -1,115 +1,126 @@
 // Image pick and plane pick.
 use crate::images::images_wrong;
-use crate::physical::too_close;
-use crate::plane::numbers_at;
-use crate::plane::on_axes;
-use crate::plane::write_images;
-use chart::Answer;
+use answers::Answer;
+use chart::Found;
+use chart::find;
+use search::Candidate;
 use space::Place;
-use space::cross;
 use space::place_at;
-ghost use mathlib.Core.List.{map};
 ghost use mathlib.Core.Path.{_≡_};
 ghost use Prim.Native.Nat.{_*_, _≤_};
+ghost use lib.Dec.{eqb};
 ghost use lib.ListN.{length};
-ghost use Rattle.space.specs.Places.{flat};
-ghost use Rattle.sheet.specs.Checks.{first, layoutChecks};
-ghost use Rattle.sheet.specs.Content.{point, pairs};
-ghost use Rattle.sheet.specs.Layout.{sheetOf};
-ghost use Rattle.chart.specs.Answer.{paper};
-ghost use Rattle.chart.specs.Chart.{pointCount};
+ghost use Rattle.answers.specs.Answers.{paper, isPoint};
+ghost use Rattle.sheet.specs.Layout.{ringCount, sheetOf};
+ghost use Rattle.frame.specs.Framing.{pointCount};
 ghost use Rattle.picker.specs.ImagePick.{imagePickOf};
-ghost use Rattle.picker.specs.Images.{ringImages};
-ghost use Rattle.picker.specs.PlanePick.{onPlane, planePickOf};
-ghost use Rattle.picker.specs.Physical.{closing};
-ghost use Rattle.picker.specs.Stages.{ImagePassed, PlanePassed};
+ghost use Rattle.picker.specs.PlanePick.{planePickOf};
+ghost use Rattle.picker.specs.Stages.{ImagePassed, PlanePassed, closing};
 
-// How many numbers the images of the points of a sheet are, at most.
-const MOST_IMAGES: usize = 6528;
-
-// 15, of the point p that is measured from, and the answer.
-fn answer_at(s: &[u8], p: Place, clearance: f64, count: u32, images: &[f64]) -> Answer
-    requires { ⌜ (first (layoutChecks (now s)) ≡ 0) × (3 * pointCount (sheetOf (now s)) ≤ length (now images)) ⌝ }
-    ensures { λ r. ⌜ paper r ≡ closing (sheetOf (now (s .entry))) p (ringImages (sheetOf (now (s .entry)) .rings) (now (images .entry))) clearance count ⌝ }
+// The answer for the point p of the chosen grid point, and 15 where it is too close.
+fn answer_at(is_close: bool, p: Place, best: Candidate) -> Answer
+    ensures { λ r. ⌜ (paper r ≡ closing «is_close» p best) × (isPoint r ≡ eqb (paper r .status) 0) ⌝ }
 {
-    if too_close(s, p, images) {
+    if is_close {
         Answer::Refused(15)
     } else {
-        Answer::Point(p.x, p.y, p.z, clearance, count)
+        Answer::Point(p.x, p.y, p.z, best.clearance, best.count)
     }
 }
 
-// Image pick of what passes the checks down to 10. `points` has room for just the moved points.
-fn image_over(s: &[u8], phase: u32, images: &[f64], points: &mut [f64]) -> Answer
-    requires { ⌜ ImagePassed (now s) phase (now images) × (length (now points) ≡ 2 * pointCount (sheetOf (now s))) ⌝ }
-    ensures { λ r. ⌜ paper r ≡ imagePickOf (now (s .entry)) phase (now (images .entry)) ⌝ }
+// Image pick of what passes the checks down to 10. `moved` has room for just the moved points, and `ends` for
+// the rings' ends.
+fn image_over(s: &[u8], phase: u32, images: &[f64], moved: &mut [f64], ends: &mut [usize]) -> Answer
+    requires { ⌜ ImagePassed (now s) phase (now images) × (length (now moved) ≡ 2 * pointCount (sheetOf (now s))) × (length (now ends) ≡ ringCount (now s)) ⌝ }
+    ensures { λ r. ⌜ (paper r ≡ imagePickOf (now (s .entry)) phase (now (images .entry))) × (isPoint r ≡ eqb (paper r .status) 0) ⌝ }
 {
-    match chart::chart(s, phase, points) {
-        Answer::Refused(number) => Answer::Refused(number),
-        Answer::Point(_, _, _, clearance, count) => {
+    match find(s, phase, moved, ends) {
+        Found::Refused(number) => Answer::Refused(number),
+        Found::Chosen(_, best) => {
             let last = place_at(images, images.len() - 3);
-            answer_at(s, last, clearance, count, images)
+            answer_at(physical::too_close(s, last, images), last, best)
         }
     }
+}
+
+// The same, over small lists of its own.
+fn image_small(s: &[u8], phase: u32, images: &[f64], n: usize, count: usize) -> Answer
+    requires { ⌜ ImagePassed (now s) phase (now images) × (n ≡ 2 * pointCount (sheetOf (now s))) × (count ≡ ringCount (now s)) × (n ≤ 544) ⌝ }
+    ensures { λ r. ⌜ (paper r ≡ imagePickOf (now (s .entry)) phase (now (images .entry))) × (isPoint r ≡ eqb (paper r .status) 0) ⌝ }
+{
+    let mut moved = [0.0f64; sheet::SMALL_NUMBERS];
+    let mut ends = [0usize; sheet::MOST_RINGS];
+    image_over(s, phase, images, &mut moved[..n], &mut ends[..count])
+}
+
+// The same, over lists of its own for the points of any sheet.
+fn image_large(s: &[u8], phase: u32, images: &[f64], n: usize, count: usize) -> Answer
+    requires { ⌜ ImagePassed (now s) phase (now images) × (n ≡ 2 * pointCount (sheetOf (now s))) × (count ≡ ringCount (now s)) ⌝ }
+    ensures { λ r. ⌜ (paper r ≡ imagePickOf (now (s .entry)) phase (now (images .entry))) × (isPoint r ≡ eqb (paper r .status) 0) ⌝ }
+{
+    let mut moved = [0.0f64; sheet::MOST_NUMBERS];
+    let mut ends = [0usize; sheet::MOST_RINGS];
+    image_over(s, phase, images, &mut moved[..n], &mut ends[..count])
 }
 
 // The last image, for the grid point that the chart chooses.
 pub fn image_pick(s: &[u8], phase: u32, images: &[f64]) -> Answer
-    ensures { λ r. ⌜ paper r ≡ imagePickOf (now (s .entry)) phase (now (images .entry)) ⌝ }
+    ensures { λ r. ⌜ (paper r ≡ imagePickOf (now (s .entry)) phase (now (images .entry))) × (isPoint r ≡ eqb (paper r .status) 0) ⌝ }
 {
-    let refusal = sheet::refusal(s);
+    let refusal = frame::refusal(s, phase);
     if refusal != 0 {
         return Answer::Refused(refusal);
-    }
-    if chart::phase_wrong(s, phase) {
-        return Answer::Refused(8);
     }
     if images_wrong(s, images) {
         return Answer::Refused(10);
     }
-    let n = chart::point_numbers(s);
-    let mut points = [0.0f64; sheet::MOST_NUMBERS];
-    image_over(s, phase, images, &mut points[..n])
+    let n = frame::point_numbers(s);
+    let count = sheet::byte_at(s, 7) as usize;
+    if n <= sheet::SMALL_NUMBERS {
+        image_small(s, phase, images, n, count)
+    } else {
+        image_large(s, phase, images, n, count)
+    }
 }
 
-// The answer on the sheet's plane for (u, v). `images` has room for just the points' images.
-fn answer_on(
-    s: &[u8],
-    u: f64,
-    v: f64,
-    clearance: f64,
-    count: u32,
-    points: &[f64],
-    images: &mut [f64],
-) -> Answer
-    requires { ⌜ PlanePassed (now s) × (length (now points) ≡ 2 * pointCount (sheetOf (now s))) × (length (now images) ≡ 3 * pointCount (sheetOf (now s))) ⌝ }
-    ensures { λ r. ⌜ paper r ≡ closing (sheetOf (now (s .entry))) (onPlane (sheetOf (now (s .entry)) .plane) (point u v)) (ringImages (sheetOf (now (s .entry)) .rings) (flat (map (onPlane (sheetOf (now (s .entry)) .plane)) (pairs (now (points .entry)))))) clearance count ⌝ }
+// Plane pick of what passes the checks down to 8. `moved` has room for just the moved points, and `ends` for
+// the rings' ends.
+fn plane_over(s: &[u8], moved: &mut [f64], ends: &mut [usize]) -> Answer
+    requires { ⌜ PlanePassed (now s) × (length (now moved) ≡ 2 * pointCount (sheetOf (now s))) × (length (now ends) ≡ ringCount (now s)) ⌝ }
+    ensures { λ r. ⌜ (paper r ≡ planePickOf (now (s .entry))) × (isPoint r ≡ eqb (paper r .status) 0) ⌝ }
 {
-    let origin = numbers_at(s, 8);
-    let u_axis = numbers_at(s, 32);
-    let v_axis = cross(numbers_at(s, 56), u_axis);
-    write_images(origin, u_axis, v_axis, points, images);
-    let p = on_axes(origin, u_axis, v_axis, u, v);
-    answer_at(s, p, clearance, count, images)
-}
-
-// Plane pick of what passes the checks down to 8. `points` and `images` have room for just the moved
-// points and their images.
-fn plane_over(s: &[u8], points: &mut [f64], images: &mut [f64]) -> Answer
-    requires { ⌜ PlanePassed (now s) × (length (now points) ≡ 2 * pointCount (sheetOf (now s))) × (length (now images) ≡ 3 * pointCount (sheetOf (now s))) ⌝ }
-    ensures { λ r. ⌜ paper r ≡ planePickOf (now (s .entry)) ⌝ }
-{
-    match chart::chart(s, 0, points) {
-        Answer::Refused(number) => Answer::Refused(number),
-        Answer::Point(u, v, _, clearance, count) => {
-            answer_on(s, u, v, clearance, count, points, images)
+    match find(s, 0, moved, ends) {
+        Found::Refused(number) => Answer::Refused(number),
+        Found::Chosen(f, best) => {
+            let p = physical::place_on(s, chart::turned_u(f, best), chart::turned_v(f, 0, best));
+            answer_at(physical::is_plane_close(s, p, moved, ends), p, best)
         }
     }
 }
 
+// The same, over small lists of its own.
+fn plane_small(s: &[u8], n: usize, count: usize) -> Answer
+    requires { ⌜ PlanePassed (now s) × (n ≡ 2 * pointCount (sheetOf (now s))) × (count ≡ ringCount (now s)) × (n ≤ 544) ⌝ }
+    ensures { λ r. ⌜ (paper r ≡ planePickOf (now (s .entry))) × (isPoint r ≡ eqb (paper r .status) 0) ⌝ }
+{
+    let mut moved = [0.0f64; sheet::SMALL_NUMBERS];
+    let mut ends = [0usize; sheet::MOST_RINGS];
+    plane_over(s, &mut moved[..n], &mut ends[..count])
+}
+
+// The same, over lists of its own for the points of any sheet.
+fn plane_large(s: &[u8], n: usize, count: usize) -> Answer
+    requires { ⌜ PlanePassed (now s) × (n ≡ 2 * pointCount (sheetOf (now s))) × (count ≡ ringCount (now s)) ⌝ }
+    ensures { λ r. ⌜ (paper r ≡ planePickOf (now (s .entry))) × (isPoint r ≡ eqb (paper r .status) 0) ⌝ }
+{
+    let mut moved = [0.0f64; sheet::MOST_NUMBERS];
+    let mut ends = [0usize; sheet::MOST_RINGS];
+    plane_over(s, &mut moved[..n], &mut ends[..count])
+}
+
 // The place on the sheet's plane of the grid point that the chart chooses.
 pub fn plane_pick(s: &[u8]) -> Answer
-    ensures { λ r. ⌜ paper r ≡ planePickOf (now (s .entry)) ⌝ }
+    ensures { λ r. ⌜ (paper r ≡ planePickOf (now (s .entry))) × (isPoint r ≡ eqb (paper r .status) 0) ⌝ }
 {
     let refusal = sheet::refusal(s);
     if refusal != 0 {
@@ -118,8 +129,11 @@ pub fn plane_pick(s: &[u8]) -> Answer
     if sheet::byte_at(s, 5) != 0 {
         return Answer::Refused(8);
     }
-    let n = chart::point_numbers(s);
-    let mut points = [0.0f64; sheet::MOST_NUMBERS];
-    let mut images = [0.0f64; MOST_IMAGES];
-    plane_over(s, &mut points[..n], &mut images[..3 * (n / 2)])
+    let n = frame::point_numbers(s);
+    let count = sheet::byte_at(s, 7) as usize;
+    if n <= sheet::SMALL_NUMBERS {
+        plane_small(s, n, count)
+    } else {
+        plane_large(s, n, count)
+    }
 }

@@ -4,10 +4,10 @@
 // as bits and the count, and of the chart a number that every place of the list goes into. rust/oracle made
 // the plates and says their lines (make_plates). A missing file leaves no line, and a file that is cut off
 // or broken ends with the line `broken`.
+use answers::Answer;
 use cases::HEAD_SIZE;
 use cases::Head;
 use cases::UNWRITTEN;
-use chart::Answer;
 use libc::STDOUT_FILENO;
 ghost use mathlib.Core.Path.{_≡_};
 ghost use Prim.Native.Nat.{ℕ, _-_, _<_, _≤_};

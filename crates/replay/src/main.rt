@@ -16,17 +16,17 @@
 //
 // rust/oracle made the files (make_replay, make_replay_after). A missing file leaves no line, and a file that
 // is cut off or broken has one wrong answer more.
-use answers::DirectionAnswer;
-use answers::MiddleAnswer;
-use answers::ParameterAnswer;
-use answers::PositionAnswer;
+use answers::Answer;
+use answers::of_direction;
+use answers::of_middle;
+use answers::of_parameter;
+use answers::of_position;
 use cases::HEAD_SIZE;
 use cases::Head;
 use cases::UNWRITTEN;
 use cases::is_shown;
 use cases::u32_at;
 use cases::u64_at;
-use chart::Answer;
 use libc::STDOUT_FILENO;
 ghost use mathlib.Core.Path.{_≡_};
 ghost use mathlib.Core.Bool.{_&&_};
@@ -110,61 +110,6 @@ fn compared(result: Answer, list_right: bool, answer: &[u8; 40]) -> Outcome {
     }
 }
 
-// The like of a call after the picker, whose values come first.
-fn compared_position(result: PositionAnswer, answer: &[u8; 40]) -> Outcome {
-    match result {
-        PositionAnswer::Position(x, y, z) => {
-            Outcome::Point(is_recorded(answer, 0, x, y, z, 0.0, 0))
-        }
-        PositionAnswer::Refused(number) => {
-            Outcome::Refusal(is_recorded(answer, number, 0.0, 0.0, 0.0, 0.0, 0))
-        }
-    }
-}
-
-fn compared_parameter(result: ParameterAnswer, answer: &[u8; 40]) -> Outcome {
-    match result {
-        ParameterAnswer::Parameter(t) => Outcome::Point(is_recorded(
-            answer,
-            0,
-            t,
-            0.0,
-            0.0,
-            0.0,
-            0,
-        )),
-        ParameterAnswer::Refused(number) => {
-            Outcome::Refusal(is_recorded(answer, number, 0.0, 0.0, 0.0, 0.0, 0))
-        }
-    }
-}
-
-fn yes(b: bool) -> f64 {
-    if b { 1.0 } else { 0.0 }
-}
-
-fn compared_direction(result: DirectionAnswer, answer: &[u8; 40]) -> Outcome {
-    match result {
-        DirectionAnswer::Direction(reverse, keep) => {
-            Outcome::Point(is_recorded(answer, 0, yes(reverse), yes(keep), 0.0, 0.0, 0))
-        }
-        DirectionAnswer::Refused(number) => {
-            Outcome::Refusal(is_recorded(answer, number, 0.0, 0.0, 0.0, 0.0, 0))
-        }
-    }
-}
-
-fn compared_middle(result: MiddleAnswer, answer: &[u8; 40]) -> Outcome {
-    match result {
-        MiddleAnswer::Middle(angle, height) => {
-            Outcome::Point(is_recorded(answer, 0, angle, height, 0.0, 0.0, 0))
-        }
-        MiddleAnswer::Refused(number) => {
-            Outcome::Refusal(is_recorded(answer, number, 0.0, 0.0, 0.0, 0.0, 0))
-        }
-    }
-}
-
 // Makes a call after the picker and compares. A list that is too short to hold the call's numbers is broken.
 fn judge_after(call: Call, front: &[f64], whole: u32, list: &[f64], answer: &[u8; 40]) -> Outcome {
     match call {
@@ -172,25 +117,37 @@ fn judge_after(call: Call, front: &[f64], whole: u32, list: &[f64], answer: &[u8
             if list.len() != 2 {
                 return Outcome::Broken;
             }
-            compared_parameter(fallbacks::sample_parameter(list[0], list[1], whole), answer)
+            compared(
+                of_parameter(steps::sample_parameter(list[0], list[1], whole)),
+                true,
+                answer,
+            )
         }
-        Call::Direction => compared_direction(fallbacks::edge_direction(list), answer),
+        Call::Direction => compared(of_direction(steps::edge_direction(list)), true, answer),
         Call::SphericalTriangle => {
             if list.len() == 0 {
                 return Outcome::Broken;
             }
             let result = triangle::spherical_triangle_of(front, list[0], whole, &list[1..]);
-            compared_position(result, answer)
+            compared(of_position(result), true, answer)
         }
         Call::PointOn => {
             let n = whole as usize;
             if front.len() < n {
                 return Outcome::Broken;
             }
-            compared_position(fallbacks::point_on(&front[..n], &front[n..], list), answer)
+            compared(
+                of_position(vertex_fallback::point_on(&front[..n], &front[n..], list)),
+                true,
+                answer,
+            )
         }
-        Call::CylinderPoint => compared_middle(fallbacks::cylinder_point(front, list), answer),
-        Call::Placed => compared_position(fallbacks::placed(front, list), answer),
+        Call::CylinderPoint => compared(
+            of_middle(round_fallback::cylinder_point(front, list)),
+            true,
+            answer,
+        ),
+        Call::Placed => compared(of_position(steps::placed(front, list)), true, answer),
         _ => Outcome::Broken,
     }
 }

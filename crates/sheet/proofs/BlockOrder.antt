@@ -1,4 +1,5 @@
--- "the same ring blocks in another order, all else in the call the same": a sheet whose layout reads is its head and its blocks, one behind the other. With the blocks in another order its layout reads too,
+-- "the same ring blocks in another order, all else in the call the same": a sheet whose layout reads is its head and
+-- its blocks, one behind the other. With the blocks in another order its layout reads too,
 -- its blocks are those, and it says the same but for the rings' order.
 use mathlib.Core.Path.{_≡_, refl, sym, ap, ap₂, _∙_, subst}
 use mathlib.Core.Bool.{Bool, true, false, not, cond, _||_}
@@ -14,10 +15,12 @@ use Rattle.leaves.specs.Constants.{zero as plusZero}
 use Rattle.leaves.proofs.Folds.{All, all-of, all-perm}
 use Rattle.sheet.specs.Content.{Coedge, Sheet, ringPoints}
 use Rattle.sheet.specs.Layout.{big, numberOf, number, numbers, lengthField, version, kind, sense, ringCount, headSize, head, plane, cut, blocks, ring, sheetOf}
-use Rattle.sheet.specs.Checks.{first, lengthWrong, versionWrong, kindWrong, countWrong, fill, blocksWrong, layoutChecks}
+use Rattle.answers.specs.Outcome.{first}
+use Rattle.sheet.specs.Checks.{lengthWrong, versionWrong, kindWrong, countWrong, fill, blocksWrong, layoutChecks}
 use Rattle.sheet.proofs.Blocks.{Block, whole-cut, cut-length, cut-blocks, cut-flatten, fill-flatten}
-use Rattle.sheet.proofs.Checked.{laid, first-none}
-use Rattle.sheet.proofs.Permutations.{perm-length, flatten-perm, map-perm, all-map}
+use Rattle.sheet.proofs.Checked.{laid}
+use Rattle.answers.proofs.FirstCheck.{first-none}
+use Rattle.answers.proofs.Permutations.{perm-length, flatten-perm, map-perm, all-map}
 use Rattle.sheet.proofs.Reading.{ClearPoint, ClearDeviation, ring-clear, ring-deviations}
 
 -- the sheet with these rings in place of its own

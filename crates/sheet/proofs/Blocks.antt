@@ -1,4 +1,5 @@
--- The ring blocks. Bytes that blocks fill are those blocks, one behind the other, and whole blocks one behind the other are cut back into themselves.
+-- The ring blocks. Bytes that blocks fill are those blocks, one behind the other, and whole blocks one behind the other
+-- are cut back into themselves.
 -- A ring has as many coedges as its block's first byte says, and each coedge 17 points.
 use mathlib.Core.Path.{_≡_, refl, sym, ap, ap₂, _∙_}
 use mathlib.Core.Bool.{Bool, true, false, _&&_, true≢false}

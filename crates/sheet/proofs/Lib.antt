@@ -1,4 +1,5 @@
--- Laws about the definitions of `sheet`, by subject. What two functions' proofs need, and what the layers above cite, stands here.
+-- Laws about the definitions of `sheet`, by subject. What two functions' proofs need, and what the layers above cite,
+-- stands here.
 
 -- bytes and the numbers that they are
 pub mod Bytes
@@ -10,9 +11,7 @@ pub mod Walks
 pub mod Planes
 -- the checks, and what holds of a sheet that passes them
 pub mod Checked
-pub mod Settled
--- lists in another order, and a sheet's ring blocks in another order
-pub mod Permutations
+-- a sheet's ring blocks in another order
 pub mod BlockOrder
 -- how long a sheet can be
 pub mod Sizes

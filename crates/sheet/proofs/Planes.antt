@@ -6,7 +6,7 @@ use native.Mathlib.Omega.{arith}
 use lib.Ieee.{Float}
 use lib.ListN.{getD, drop}
 use lib.Seq.{drop-drop}
-use Rattle.sheet.specs.Layout.{kind, number, numbers, sheetOf}
+use Rattle.sheet.specs.Layout.{sense, kind, number, numbers, sheetOf}
 use Rattle.sheet.proofs.Walks.{plane-of}
 
 -- the number in place k of n
@@ -21,6 +21,10 @@ numbers-at (suc n) s (suc k) d h =
 pub sheet-kind : (s : List ℕ) → sheetOf s .kind ≡ kind s
 unfolding sheetOf
 sheet-kind s = refl
+
+pub sheet-sense : (s : List ℕ) → sheetOf s .sense ≡ sense s
+unfolding sheetOf
+sheet-sense s = refl
 
 pub sheet-plane : (s : List ℕ) → kind s ≡ 0 → sheetOf s .plane ≡ numbers 9 (drop 8 s)
 unfolding sheetOf

@@ -18,7 +18,7 @@ use Rattle.leaves.proofs.Choices.{Clear}
 use Rattle.leaves.proofs.Folds.{All, all-append}
 use Rattle.leaves.proofs.Order.{minusZero}
 use Rattle.sheet.specs.Content.{Point, Coedge, ringPoints}
-use Rattle.sheet.specs.Layout.{big, numberOf, number, numbers, points, coedge, coedges, ring}
+use Rattle.sheet.specs.Layout.{big, numberOf, number, points, coedge, coedges, ring}
 
 -- ---- a pattern that is not 0 without its sign stands for no zero
 
@@ -70,11 +70,6 @@ number-clear s = go (ltb (length s) 8)
     go : (b : Bool) → Clear binary64 (cond b plusZero (numberOf (big (take 8 s))))
     go true = zero-clear
     go false = bits-clear (big (take 8 s))
-
-pub numbers-clear : (n : ℕ) (s : List ℕ) → All (Clear binary64) (numbers n s)
-unfolding numbers
-numbers-clear zero s = tt
-numbers-clear (suc n) s = (number-clear s, numbers-clear n (drop 8 s))
 
 -- ---- the points
 

@@ -1,4 +1,5 @@
--- "The largest accepted sheet has 35,936 bytes": how long a sheet is whose blocks fill it, and that one which passes check 6 is no longer.
+-- "The largest accepted sheet has 35,936 bytes": how long a sheet is whose blocks fill it, and that one which passes
+-- check 6 is no longer.
 use mathlib.Core.Path.{_≡_, refl, ap}
 use mathlib.Core.List.{List, [], _∷_, _++_, map, flatten}
 use Prim.Native.Nat.{ℕ, _+_, _*_, _≤_}
@@ -7,7 +8,8 @@ use lib.ListN.{length, drop, length-append, length-drop}
 use Rattle.leaves.proofs.Folds.{All, sum-cons}
 use Rattle.sheet.specs.Content.{Coedge}
 use Rattle.sheet.specs.Layout.{cut, blocks, ring, kind, ringCount, headSize, sheetOf}
-use Rattle.sheet.specs.Checks.{first, layoutChecks, contentChecks, coedgeTotal}
+use Rattle.answers.specs.Outcome.{first}
+use Rattle.sheet.specs.Checks.{layoutChecks, contentChecks, coedgeTotal}
 use Rattle.sheet.proofs.Blocks.{Block, block-size-at, cut-blocks, cut-length, ring-length, whole-cut}
 use Rattle.sheet.proofs.Checked.{checked, head-size-most}
 

@@ -1,7 +1,8 @@
--- The walks, a step at a time: of what is left after k of n, the first is what stands at the place, and the rest is what is left after k + 1.
+-- The walks, a step at a time: of what is left after k of n, the first is what stands at the place, and the rest is
+-- what is left after k + 1.
 use mathlib.Core.Path.{_≡_, refl, sym, ap, ap₂, _∙_}
 use mathlib.Core.Logic.{_⊎_, inl, inr}
-use mathlib.Core.Bool.{Bool, true, false, not, _&&_, _||_, or-assoc, or-false}
+use mathlib.Core.Bool.{Bool, true, false, not, _&&_, _||_, or-assoc}
 use mathlib.Core.List.{List, [], _∷_, map, foldl}
 use Prim.Native.Nat.{ℕ, zero, suc, _+_, _-_, _*_, _≤_, _<_}
 use native.Mathlib.Nat.{add-zero, eq-or-lt-of-le, mul-add, mul-one}
@@ -14,9 +15,10 @@ use borrow.Author.Tests.{eq-eqb, ne-eqb, le-leb, lt-leb}
 use Rattle.leaves.specs.Constants.{zero as plusZero}
 use Rattle.leaves.proofs.ConstantBits.{deviationLimit-bits}
 use Rattle.sheet.specs.Content.{Coedge}
-use Rattle.sheet.specs.Lists.{anyOf}
+use Rattle.answers.specs.Lists.{anyOf}
 use Rattle.sheet.specs.Layout.{kind, plane, number, numbers, points, coedge, coedges, ring, blockSize, cut}
-use Rattle.sheet.specs.Checks.{fill, empty, beyond, coordinateLimit, axisLimit, pointWrong, planeWrong, coedgeWrong, coedgesWrong}
+use Rattle.sheet.specs.Checks.{fill, empty, coordinateLimit, axisLimit, pointWrong, planeWrong, coedgeWrong, coedgesWrong}
+use Rattle.answers.specs.Limits.{beyond}
 use Rattle.sheet.proofs.Blocks.{fill-first, first-byte, ring-length}
 
 one-less : (n k : ℕ) → k < n → n - k ≡ suc (n - (k + 1))
@@ -24,35 +26,6 @@ one-less n k h = omega arith
 
 none-left : (n k : ℕ) → n ≤ k → n - k ≡ 0
 none-left n k h = omega arith
-
--- ---- any-of
-
-pub any-found : {A : Type 0} (test : A → Bool) {l : List A} {x : A} {rest : List A} → l ≡ x ∷ rest → test x ≡ true → anyOf test l ≡ true
-unfolding anyOf
-any-found test {x = x} {rest = rest} e t = ap (anyOf test) e ∙ ap (λ (b : Bool). b || anyOf test rest) t
-
-pub any-passed : {A : Type 0} (test : A → Bool) {l : List A} {x : A} {rest : List A} → l ≡ x ∷ rest → test x ≡ false → anyOf test l ≡ anyOf test rest
-unfolding anyOf
-any-passed test {x = x} {rest = rest} e t = ap (anyOf test) e ∙ ap (λ (b : Bool). b || anyOf test rest) t
-
-pub any-none : {A : Type 0} (test : A → Bool) {l : List A} → l ≡ [] → anyOf test l ≡ false
-unfolding anyOf
-any-none test e = ap (anyOf test) e
-
--- of two, and of three
-pub any-two : {A : Type 0} (test : A → Bool) (d : A) (xs : List A) → length xs ≡ 2 → anyOf test xs ≡ (test (getD xs 0 d) || test (getD xs 1 d))
-unfolding anyOf
-any-two test d [] e = absurd (omega arith)
-any-two test d (x ∷ []) e = absurd (omega arith)
-any-two test d (x ∷ y ∷ []) e = ap (λ (b : Bool). test x || b) (or-false (test y))
-any-two test d (x ∷ y ∷ z ∷ xs) e = absurd (omega arith)
-
-pub any-three : {A : Type 0} (test : A → Bool) (d : A) (xs : List A) → length xs ≡ 3 → anyOf test xs ≡ (test (getD xs 0 d) || test (getD xs 1 d) || test (getD xs 2 d))
-unfolding anyOf
-any-three test d [] e = absurd (omega arith)
-any-three test d (x ∷ xs) e =
-    ap (λ (b : Bool). test x || b) (any-two test d xs (omega arith))
-    ∙ sym (or-assoc (test x) (test (getD xs 0 d)) (test (getD xs 1 d)))
 
 -- ---- numbers and coedges, which stand in equal steps
 

@@ -1,28 +1,17 @@
--- Document 01, "Calls and refusals", rows 1 to 7: the sheet's own checks, in the table's order. "one number means 'any ring'".
-use mathlib.Core.Bool.{Bool, true, false, not, cond, _&&_, _||_}
+-- Document 01, "Calls and refusals", rows 1 to 7: the sheet's own checks, in the table's order. "one number means 'any
+-- ring'".
+use mathlib.Core.Bool.{Bool, true, false, not, _&&_, _||_}
 use mathlib.Core.List.{List, [], _∷_, foldl}
 use Prim.Native.Nat.{ℕ, zero, suc, _+_, _-_}
 use lib.Dec.{eqb, leb, ltb}
 use lib.ListN.{length, take, drop}
-use lib.Ieee.{Float, binary64, ofBits, neg, lt, le}
+use lib.Ieee.{Float, binary64, ofBits, lt, le}
 use Rattle.leaves.specs.Constants.{zero as plusZero, deviationLimit}
 use Rattle.sheet.specs.Content.{Point, Coedge, Sheet}
-use Rattle.sheet.specs.Lists.{anyOf}
+use Rattle.answers.specs.Lists.{anyOf}
+use Rattle.answers.specs.Outcome.{Check, check}
+use Rattle.answers.specs.Limits.{beyond}
 use Rattle.sheet.specs.Layout.{lengthField, version, kind, sense, ringCount, headSize, blockSize}
-
--- ---- a refusal is the number of the first check that fails
-
-pub record Check : Type 0 where
-  pub number : ℕ
-  pub fails : Bool
-
-abbrev pub check : ℕ → Bool → Check
-check n b = record { number = n; fails = b }
-
--- 0 where none fails
-unfoldable pub first : List Check → ℕ
-first [] = 0
-first (c ∷ cs) = cond (c .fails) (c .number) (first cs)
 
 -- ---- 1: "under 8 bytes, or length field ≠ bytes after it"
 unfoldable pub lengthWrong : List ℕ → Bool
@@ -72,7 +61,8 @@ unfoldable pub coedgesWrong : List (List Coedge) → Bool
 unfolding anyOf empty coedgeTotal
 coedgesWrong rings = anyOf empty rings || ltb mostCoedges (coedgeTotal rings)
 
--- ---- 7: "not finite; or magnitude above: 2^20 chart coordinate or origin, 2 axis component; or deviation below 0 or not below 0.002"
+-- ---- 7: "not finite; or magnitude above: 2^20 chart coordinate or origin, 2 axis component; or deviation below 0 or
+-- not below 0.002"
 
 -- 2^20
 abbrev pub coordinateLimit : Float
@@ -81,11 +71,6 @@ coordinateLimit = ofBits binary64 0x4130000000000000
 -- 2
 abbrev pub axisLimit : Float
 axisLimit = ofBits binary64 0x4000000000000000
-
--- of magnitude above the limit, infinite, or a NaN
-unfoldable pub beyond : Float → Float → Bool
-unfolding le neg
-beyond limit x = not (le (neg limit) x && le x limit)
 
 unfoldable pub pointWrong : Point → Bool
 unfolding beyond

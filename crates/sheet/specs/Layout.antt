@@ -48,7 +48,8 @@ sense s = getD s 6 0
 abbrev pub ringCount : List ℕ → ℕ
 ringCount s = getD s 7 0
 
--- "Only kind 0 then has origin, u axis and normal, three f64 each (72 bytes)": what stands before the ring blocks has so many bytes
+-- "Only kind 0 then has origin, u axis and normal, three f64 each (72 bytes)": what stands before the ring blocks has
+-- so many bytes
 unfoldable pub headSize : ℕ → ℕ
 headSize k = cond (eqb k 0) 80 8
 

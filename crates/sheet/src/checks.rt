@@ -11,7 +11,8 @@ ghost use mathlib.Core.Path.{_≡_};
 ghost use mathlib.Core.Bool.{true, false};
 ghost use mathlib.Core.List.{_++_};
 ghost use Rattle.sheet.specs.Layout.{plane, sheetOf};
-ghost use Rattle.sheet.specs.Checks.{lengthWrong, versionWrong, kindWrong, countWrong, blocksWrong, planeWrong, layoutChecks, contentChecks, first};
+ghost use Rattle.sheet.specs.Checks.{lengthWrong, versionWrong, kindWrong, countWrong, blocksWrong, planeWrong, layoutChecks, contentChecks};
+ghost use Rattle.answers.specs.Outcome.{first};
 
 // 2, for a component of the u axis or the normal.
 const AXIS_LIMIT: f64 = 2.0;

@@ -24,6 +24,9 @@ pub const COEDGE_NUMBERS: usize = 34;
 
 pub const MOST_NUMBERS: usize = 4352;
 
+// Those of a sheet of at most 16 coedges, as nearly every face's is.
+pub const SMALL_NUMBERS: usize = 544;
+
 // The byte at a place; 0 past the end.
 pub fn byte_at(s: &[u8], at: usize) -> u8
     ensures { λ r. ⌜ r ≡ getD (now (s .entry)) at 0 ⌝ }

@@ -13,19 +13,13 @@ ghost use mathlib.Core.Bool.{true};
 ghost use mathlib.Core.List.{map};
 ghost use Prim.Native.Nat.{_+_, _*_, _≤_};
 ghost use lib.ListN.{length, drop};
-ghost use Rattle.sheet.specs.Lists.{anyOf};
+ghost use Rattle.answers.specs.Lists.{anyOf};
 ghost use Rattle.sheet.specs.Layout.{ring, cut, coedge, numbers};
-ghost use Rattle.sheet.specs.Checks.{fill, beyond, coedgeWrong, ringWrong, coedgesWrong};
+ghost use Rattle.sheet.specs.Checks.{fill, coedgeWrong, ringWrong, coedgesWrong};
+ghost use Rattle.answers.specs.Limits.{beyond};
 
 // 2^20, for a chart coordinate or the origin.
-pub const COORDINATE_LIMIT: f64 = 1048576.0;
-
-// Of magnitude above the limit, infinite, or a NaN.
-pub fn is_beyond(limit: f64, x: f64) -> bool
-    ensures { λ r. ⌜ r ≡ beyond limit x ⌝ }
-{
-    if -limit <= x { !(x <= limit) } else { true }
-}
+pub(crate) const COORDINATE_LIMIT: f64 = 1048576.0;
 
 // Whether any of `count` numbers from `from` on is beyond the limit.
 pub(crate) fn any_beyond(limit: f64, s: &[u8], from: usize, count: usize) -> bool
@@ -34,21 +28,7 @@ pub(crate) fn any_beyond(limit: f64, s: &[u8], from: usize, count: usize) -> boo
 {
     let mut k = 0;
     while k < count {
-        if is_beyond(limit, number(s, from + 8 * k)) {
-            return true;
-        }
-        k += 1;
-    }
-    false
-}
-
-// Whether any number of a list is beyond the limit.
-pub fn any_number_beyond(limit: f64, list: &[f64]) -> bool
-    ensures { λ r. ⌜ r ≡ anyOf (beyond limit) (now (list .entry)) ⌝ }
-{
-    let mut k = 0;
-    while k < list.len() {
-        if is_beyond(limit, list[k]) {
+        if answers::is_beyond(limit, number(s, from + 8 * k)) {
             return true;
         }
         k += 1;

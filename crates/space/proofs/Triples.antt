@@ -1,13 +1,12 @@
--- Places in a list of numbers, read one after the other and written so: what `triples` gives from the place 3 * k on, and `triples` and `flat` each from the other.
-use mathlib.Core.Path.{_≡_, refl, sym, ap}
-use mathlib.Core.List.{List, [], _∷_, _++_}
+-- Places in a list of numbers, read one after the other: what `triples` gives from the place 3 * k on.
+use mathlib.Core.Path.{_≡_, refl, sym}
+use mathlib.Core.List.{List, [], _∷_}
 use Prim.Native.Nat.{ℕ, suc, _+_, _*_, _/_, _<_, _≤_}
 use native.Mathlib.Omega.{arith}
 use lib.Ieee.{Float, nan, binary64, ofBits, div}
 use lib.ListN.{length, drop, getD, length-drop, List·getD-eq-default}
 use lib.Seq.{drop-cons}
-use Rattle.space.specs.Places.{triples, flat, placeAt}
-use Rattle.space.specs.declared.vectors.Place.{Place}
+use Rattle.space.specs.Places.{triples, placeAt}
 
 -- ---- past the end, where a 0 over a 0 stands in the code
 
@@ -41,30 +40,3 @@ pub triples-end : (xs : List Float) (k : ℕ) → length xs / 3 ≤ k → triple
 triples-end xs k h = short (drop (3 * k) xs) (simp length-drop (omega arith))
 
 -- ---- written
-
-pub flat-none : flat [] ≡ []
-unfolding flat
-flat-none = refl
-
-pub flat-cons : (p : Place) (ps : List Place) → flat (p ∷ ps) ≡ p .x ∷ p .y ∷ p .z ∷ flat ps
-unfolding flat
-flat-cons p ps = refl
-
--- ---- there and back
-
-pub triples-flat : (ps : List Place) → triples (flat ps) ≡ ps
-unfolding triples flat
-triples-flat [] = refl
-triples-flat (p ∷ ps) = ap (λ (qs : List Place). p ∷ qs) (triples-flat ps)
-
-pub flat-append : (ps qs : List Place) → flat (ps ++ qs) ≡ flat ps ++ flat qs
-unfolding flat
-flat-append [] qs = refl
-flat-append (p ∷ ps) qs = ap (λ (ys : List Float). p .x ∷ p .y ∷ p .z ∷ ys) (flat-append ps qs)
-
--- ---- lengths
-
-pub length-flat : (ps : List Place) → length (flat ps) ≡ 3 * length ps
-unfolding flat
-length-flat [] = refl
-length-flat (p ∷ ps) = omega (arith, length-flat ps)

@@ -12,10 +12,6 @@ triples (x ∷ []) = []
 triples (x ∷ y ∷ []) = []
 triples (x ∷ y ∷ z ∷ rest) = place x y z ∷ triples rest
 
-unfoldable pub flat : List Place → List Float
-flat [] = []
-flat (p ∷ ps) = p .x ∷ p .y ∷ p .z ∷ flat ps
-
 -- the place whose three numbers begin at n; a number past the list's end is a NaN
 abbrev pub placeAt : List Float → ℕ → Place
 placeAt xs n = place (getD xs n nan) (getD xs (n + 1) nan) (getD xs (n + 2) nan)

@@ -1,4 +1,5 @@
--- Laws about decimal digits: what `decimal` is below ten and from ten on, one digit more in front of those that stand, and how many there are.
+-- Laws about decimal digits: what `decimal` is below ten and from ten on, one digit more in front of those that stand,
+-- and how many there are.
 use mathlib.Core.Path.{_≡_, refl, ap}
 use mathlib.Core.Bool.{Bool, true, false, cond}
 use mathlib.Core.List.{List, [], _∷_, _++_, append-assoc}

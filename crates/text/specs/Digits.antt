@@ -17,7 +17,8 @@ digits (suc k) n = digits k (n / 16) ++ (digit (n % 16) ∷ [])
 abbrev pub hexadecimal : ℕ → List ℕ
 hexadecimal n = digits 16 n
 
--- the decimal digits of n, where n is at most k: one below ten, and otherwise those of n / 10 with the last one behind them
+-- the decimal digits of n, where n is at most k: one below ten, and otherwise those of n / 10 with the last one behind
+-- them
 unfoldable pub tens : ℕ → ℕ → List ℕ
 tens zero n = digit n ∷ []
 tens (suc k) n = cond (ltb n 10) (digit n ∷ []) (tens k (n / 10) ++ (digit (n % 10) ∷ []))

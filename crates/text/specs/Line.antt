@@ -1,4 +1,5 @@
--- Document 01, "prints status, x, y, z, clearance (f64 bits, 16 hexadecimal digits) and count (decimal); a refusal prints its number only".
+-- Document 01, "prints status, x, y, z, clearance (f64 bits, 16 hexadecimal digits) and count (decimal); a refusal
+-- prints its number only".
 use mathlib.Core.List.{List, [], _∷_, _++_}
 use Prim.Native.Nat.{ℕ}
 use lib.Ieee.{Float, binary64, toBits}

@@ -8,8 +8,8 @@ use lib.Ieee.{Float, nan}
 use lib.ListN.{length, getD}
 use borrow.Author.Tests.{eqb-true, not-false}
 use Rattle.space.specs.Places.{placeAt}
-use Rattle.sheet.specs.Outcome.{Numbers, refused}
-use Rattle.sheet.proofs.Checked.{neither}
+use Rattle.answers.specs.Outcome.{Numbers, refused}
+use Rattle.answers.proofs.AnyOf.{neither}
 use Rattle.triangle.specs.Triangle.{triangleOf}
 use Rattle.triangle.specs.Lists.{noFlag, listsWrong, endsFrom, reversedFrom, circleFrom, rangeFrom, evaluatedFrom, triangleListsOf}
 

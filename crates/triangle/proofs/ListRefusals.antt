@@ -1,12 +1,13 @@
--- "With a refusal all other result numbers are 0", of the triangle on flat lists: on every two lists, every radius and every sense the status is 0 or a number of the table, and where it is not 0 the five
--- other numbers are zeros. A wrong list is refused by 16; else the answer is that of `triangleOf`, and so are its refusals.
+-- "With a refusal all other result numbers are 0", of the triangle on flat lists: on every two lists, every radius and
+-- every sense the status is 0 or a number of the table, and where it is not 0 the five other numbers are zeros. A wrong
+-- list is refused by 16; else the answer is that of `triangleOf`, and so are its refusals.
 use mathlib.Core.Logic.{inl, inr}
 use mathlib.Core.Path.{_≡_, refl}
 use mathlib.Core.List.{List}
 use Prim.Native.Nat.{ℕ}
 use lib.Ieee.{Float}
 use Rattle.space.specs.Places.{placeAt}
-use Rattle.sheet.specs.Outcome.{Numbers, refused, OneOf}
+use Rattle.answers.specs.Outcome.{Numbers, refused, OneOf}
 use Rattle.triangle.specs.Lists.{endsFrom, reversedFrom, circleFrom, rangeFrom, evaluatedFrom, triangleListsOf}
 use Rattle.triangle.proofs.ListCases.{three, lists-either}
 use Rattle.triangle.proofs.Refusals.{statuses, triangle-refused, triangle-status}

@@ -1,4 +1,5 @@
--- Demand 1, of the triangle on arrays: a status other than 0 is a number of the table, with zeros beside it. Behind the rows 16 and 17 stands the table of the directions, behind that the answer, whose status is 0.
+-- Demand 1, of the triangle on arrays: a status other than 0 is a number of the table, with zeros beside it. Behind the
+-- rows 16 and 17 stands the table of the directions, behind that the answer, whose status is 0.
 use mathlib.Core.Path.{_≡_, refl}
 use mathlib.Core.Bool.{Bool}
 use mathlib.Core.List.{List, [], _∷_}
@@ -6,10 +7,10 @@ use mathlib.Core.Logic.{inl, inr}
 use Prim.Native.Nat.{ℕ}
 use lib.Ieee.{Float}
 use Rattle.space.specs.declared.vectors.Place.{Place}
-use Rattle.sheet.specs.Outcome.{refused, OneOf}
-use Rattle.sheet.proofs.Checked.{first-holds}
-use Rattle.sheet.proofs.Settled.{settled-zeros, settled-holds}
-use Rattle.triangle.specs.declared.sides.Arc.{Arc}
+use Rattle.answers.specs.Outcome.{refused, OneOf}
+use Rattle.answers.proofs.FirstCheck.{first-holds}
+use Rattle.answers.proofs.Settled.{settled-zeros, settled-holds}
+use Rattle.triangle.specs.declared.arcs.Arc.{Arc}
 use Rattle.triangle.specs.Triangle.{triangleAmong, triangleOf}
 
 -- an answer, and the numbers of the table

@@ -1,5 +1,7 @@
--- The triangle on flat lists, as the host has them: the centre's three numbers, and of each side nineteen in document 01's order, "two ends of three coordinates, with a reversed flag, circle centre and radius, two range ends, and the host's evaluated ends".
--- A list of another length, or a flag that is neither 0 nor 1, is a number missing: 16 (docs/DECISIONS.md).
+-- The triangle on flat lists, as the host has them: the centre's three numbers, and of each side nineteen in document
+-- 01's order, "two ends of three coordinates, with a reversed flag, circle centre and radius, two range ends, and the
+-- host's evaluated ends". A list of another length, or a flag that is neither 0 nor 1, is a number missing: 16
+-- (docs/DECISIONS.md).
 use mathlib.Core.Bool.{Bool, not, cond, _||_}
 use mathlib.Core.List.{List, [], _∷_}
 use Prim.Native.Nat.{ℕ, _+_}
@@ -8,7 +10,7 @@ use lib.Ieee.{Float, nan, eq}
 use lib.ListN.{length, getD}
 use Rattle.leaves.specs.Constants.{zero, one}
 use Rattle.space.specs.Places.{placeAt}
-use Rattle.sheet.specs.Outcome.{Numbers, refused}
+use Rattle.answers.specs.Outcome.{Numbers, refused}
 use Rattle.triangle.specs.Triangle.{triangleOf}
 
 -- ---- 16

@@ -1,82 +1,20 @@
--- Document 01, "Triangle (`spherical_triangle`), answering three coordinates: centre, radius r, sense; three sides, each of two ends of three coordinates, with a reversed flag, circle centre and radius, two range ends, and the host's evaluated ends", and `spherical_triangle` of uv.rs.
-use mathlib.Core.Bool.{Bool, false, not, cond, _||_}
+-- Document 01, "Triangle (`spherical_triangle`), answering three coordinates: centre, radius r, sense; three sides,
+-- each of two ends of three coordinates, with a reversed flag, circle centre and radius, two range ends, and the host's
+-- evaluated ends", and `spherical_triangle` of uv.rs.
+use mathlib.Core.Bool.{Bool, false, cond, _||_}
 use mathlib.Core.List.{List, [], _∷_}
 use Prim.Native.Nat.{ℕ}
-use lib.Dec.{eqb, ltb}
-use lib.Ieee.{Float, nan, binary64, neg, add, sub, mul, lt, le}
+use lib.Dec.{eqb}
+use lib.Ieee.{Float, binary64, neg, add, mul, lt, le}
 use lib.ListN.{getD}
-use Rattle.leaves.specs.Bounds.{exceedsOf}
-use Rattle.leaves.specs.Constants.{zero, pi, micro, endLimit, one}
-use Rattle.space.specs.Places.{placeAt}
-use Rattle.space.specs.Vectors.{place, minusOf, dotOf, crossOf, distanceOf, lengthOf, unitOf, unitFails, alongOf}
+use Rattle.leaves.specs.Constants.{zero, micro, endLimit, one}
+use Rattle.space.specs.Vectors.{place, minusOf, dotOf, crossOf, distanceOf, unitOf, unitFails, alongOf}
 use Rattle.space.specs.declared.vectors.Place.{Place}
 use Rattle.space.specs.declared.vectors.UnitVector.{UnitVector}
-use Rattle.sheet.specs.Checks.{check, first, beyond, coordinateLimit}
-use Rattle.sheet.specs.Lists.{anyOf}
-use Rattle.sheet.specs.Outcome.{Numbers, settled}
+use Rattle.answers.specs.Outcome.{check, first, Numbers, settled}
 use Rattle.answers.specs.Answers.{valued}
-use Rattle.triangle.specs.declared.sides.Arc.{Arc}
-
--- ---- the arrays: three sides by two ends by three coordinates; three circles by centre and radius; three ranges by two ends
-
--- an end of a side
-abbrev pub endOf : List (List Float) → ℕ → Place
-endOf ends k = placeAt (getD ends k []) 0
-
--- ---- 16: "a number not finite or above 2^20 in magnitude, r not above 0, sense above 2"
-
-unfoldable pub placeBeyond : Place → Bool
-placeBeyond p = beyond coordinateLimit (p .x) || beyond coordinateLimit (p .y) || beyond coordinateLimit (p .z)
-
-unfoldable pub sphereWrong : Place → Float → ℕ → Bool
-unfolding placeBeyond lt
-sphereWrong centre radius sense = placeBeyond centre || beyond coordinateLimit radius || not (lt zero radius) || ltb 2 sense
-
-unfoldable pub sidesBeyond : List (List (List Float)) → List (List Float) → List (List Float) → List (List (List Float)) → Bool
-sidesBeyond ends circles ranges evaluated =
-    anyOf (anyOf (anyOf (beyond coordinateLimit))) ends
-    || anyOf (anyOf (beyond coordinateLimit)) circles
-    || anyOf (anyOf (beyond coordinateLimit)) ranges
-    || anyOf (anyOf (anyOf (beyond coordinateLimit))) evaluated
-
--- ---- 17: "circle centre or radius off by over r × 1e-6; sweep over PI; an evaluated end off its end, or an end off the sphere, by over r × 1e-5; `unit` fails"
-
-unfoldable pub circleWrong : Place → Float → Place → Float → Bool
-unfolding lt sub mul
-circleWrong centre radius circle circleRadius = lt (mul binary64 radius micro) (distanceOf circle centre) || exceedsOf (sub binary64 circleRadius radius) (mul binary64 radius micro)
-
-unfoldable pub sweepWrong : Float → Float → Bool
-unfolding sub
-sweepWrong from to = exceedsOf (sub binary64 to from) pi
-
--- an end, as the edge has it, and the host's evaluated one
-unfoldable pub endWrong : Place → Float → Place → Place → Bool
-unfolding lt sub mul
-endWrong centre radius end evaluated =
-    lt (mul binary64 radius endLimit) (distanceOf evaluated end)
-    || exceedsOf (sub binary64 (lengthOf (minusOf end centre)) radius) (mul binary64 radius endLimit)
-    || unitFails (unitOf (minusOf end centre))
-
--- a side
-unfoldable pub sideWrong : Place → Float → List (List Float) → List Float → List Float → List (List Float) → Bool
-unfolding circleWrong sweepWrong endWrong
-sideWrong centre radius ends circle range evaluated =
-    circleWrong centre radius (placeAt circle 0) (getD circle 3 nan)
-    || sweepWrong (getD range 0 nan) (getD range 1 nan)
-    || endWrong centre radius (endOf ends 0) (endOf evaluated 0)
-    || endWrong centre radius (endOf ends 1) (endOf evaluated 1)
-
--- the kth of the three
-unfoldable pub sideWrongAt : ℕ → Place → Float → List (List (List Float)) → List (List Float) → List (List Float) → List (List (List Float)) → Bool
-unfolding sideWrong
-sideWrongAt k centre radius ends circles ranges evaluated = sideWrong centre radius (getD ends k []) (getD circles k []) (getD ranges k []) (getD evaluated k [])
-
-unfoldable pub sidesWrong : Place → Float → List (List (List Float)) → List (List Float) → List (List Float) → List (List (List Float)) → Bool
-unfolding sideWrongAt
-sidesWrong centre radius ends circles ranges evaluated =
-    sideWrongAt 0 centre radius ends circles ranges evaluated
-    || sideWrongAt 1 centre radius ends circles ranges evaluated
-    || sideWrongAt 2 centre radius ends circles ranges evaluated
+use Rattle.sides.specs.Sides.{endOf, sphereWrong, sidesBeyond, sidesWrong}
+use Rattle.triangle.specs.declared.arcs.Arc.{Arc}
 
 -- ---- the directions of a side's ends, after the reversal
 
@@ -100,7 +38,8 @@ unfoldable pub gapAmong : Arc → Arc → Arc → Bool
 unfolding isGap
 gapAmong a b c = isGap (a .end) (b .start) || isGap (b .end) (c .start) || isGap (c .end) (a .start)
 
--- ---- 19: "`unit` of the sum fails, sense 0, or a triple product ≤ 1e-6"; the Rust's triple product has the sense's sign
+-- ---- 19: "`unit` of the sum fails, sense 0, or a triple product ≤ 1e-6"; the Rust's triple product has the sense's
+-- sign
 
 -- of the three start directions, from +0
 unfoldable pub sumOf : Float → Float → Float → Float
@@ -148,7 +87,7 @@ triangleAmong centre radius sense a b c =
     (onSphere centre radius (alongOf (innerOf a b c)))
 
 unfoldable pub triangleOf : Place → Float → ℕ → List (List (List Float)) → List Bool → List (List Float) → List (List Float) → List (List (List Float)) → Numbers
-unfolding sphereWrong sidesBeyond sidesWrong triangleAmong arcOf
+unfolding triangleAmong arcOf
 triangleOf centre radius sense ends reversed circles ranges evaluated =
     settled
     (first

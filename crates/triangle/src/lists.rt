@@ -1,10 +1,11 @@
 // The triangle on flat lists, as the host has them.
-use crate::sides::spherical_triangle;
+use crate::arcs::spherical_triangle;
 use answers::PositionAnswer;
 ghost use mathlib.Core.Path.{_≡_};
 ghost use Prim.Native.Nat.{_+_, _<_};
+ghost use lib.Dec.{eqb};
 ghost use lib.ListN.{length};
-ghost use Rattle.answers.specs.Answers.{positionPaper};
+ghost use Rattle.answers.specs.Answers.{positionPaper, isPosition};
 ghost use Rattle.triangle.specs.Lists.{noFlag, listsWrong, coordinates, endsFrom, reversedFrom, circleFrom, rangeFrom, evaluatedFrom, triangleListsOf};
 
 // Nineteen numbers a side.
@@ -92,7 +93,7 @@ pub fn spherical_triangle_of(
     sense: u32,
     sides: &[f64],
 ) -> PositionAnswer
-    ensures { λ r. ⌜ positionPaper r ≡ triangleListsOf (now (centre .entry)) radius sense (now (sides .entry)) ⌝ }
+    ensures { λ r. ⌜ (positionPaper r ≡ triangleListsOf (now (centre .entry)) radius sense (now (sides .entry))) × (isPosition r ≡ eqb (positionPaper r .status) 0) ⌝ }
 {
     if lists_wrong(centre, sides) {
         return PositionAnswer::Refused(16);

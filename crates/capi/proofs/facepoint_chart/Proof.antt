@@ -1,4 +1,5 @@
--- `capi::facepoint_chart` meets its contract, by those of `chart` and `put`: another length than five is refused first of all.
+-- `capi::facepoint_chart` meets its contract, by those of `chart` and `put`: another length than five is refused first
+-- of all.
 use borrow.Author.Needs.{needs}
 use Rattle.chart.specs.Chart.{chartOf}
 use Rattle.capi.specs.Convention.{chartSeen}
@@ -29,7 +30,7 @@ unfolding chartSeen
 returns-2 c =
     let a = c .before .before .before .before .before .before .before .before .before .before .before .before .args in
     let call = c .before .before .before .before .before .before .chart in
-    chart-of-five (chartOf (a .sheet .now) (a .phase) (a .points .now)) (a .points .now) (a .result .now) _ _ _ (call .result) (c .before .before .before .before .before .before .before .before .if1 .left) (call .ensures) (c .before .before .put .ensures)
+    chart-of-five (chartOf (a .sheet .now) (a .phase) (a .points .now)) (a .points .now) (a .result .now) _ _ _ (call .result) (c .before .before .before .before .before .before .before .before .if1 .left) (call .ensures .0) (c .before .before .put .ensures)
 
 pub facepoint-chart-spec : {M : Type 1} → statement M
 facepoint-chart-spec =

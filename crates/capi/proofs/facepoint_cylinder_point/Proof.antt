@@ -1,7 +1,8 @@
--- `capi::facepoint_cylinder_point` meets its contract, by those of `cylinder_point`, `of_middle` and `put`: another length than five is refused first of all.
+-- `capi::facepoint_cylinder_point` meets its contract, by those of `cylinder_point`, `of_middle` and `put`: another
+-- length than five is refused first of all.
 use mathlib.Core.Path.{_∙_}
 use borrow.Author.Needs.{needs}
-use Rattle.fallbacks.specs.Cylinder.{cylinderPointOf}
+use Rattle.round_fallback.specs.Cylinder.{cylinderPointOf}
 use Rattle.capi.proofs.Five.{other-length, of-five}
 use Rattle.capi.proofs.facepoint_cylinder_point.Statement.{statement}
 use Rattle.capi.proofs.facepoint_cylinder_point.Tie as tie
@@ -27,7 +28,7 @@ returns-2 : tie.Need-returns-2
 returns-2 c =
     let made = c .before .before .before .before in
     let a = made .before .before .before .before .before .before .args in
-    of-five (cylinderPointOf (a .heights .now) (a .angles .now)) (a .result .now) _ _ (made .of-middle .result) (made .before .before .if1 .left) (made .of-middle .ensures ∙ made .before .cylinder-point .ensures) (c .before .before .put .ensures)
+    of-five (cylinderPointOf (a .heights .now) (a .angles .now)) (a .result .now) _ _ (made .of-middle .result) (made .before .before .if1 .left) (made .of-middle .ensures ∙ made .before .cylinder-point .ensures .0) (c .before .before .put .ensures)
 
 pub facepoint-cylinder-point-spec : {M : Type 1} → statement M
 facepoint-cylinder-point-spec =

@@ -1,7 +1,8 @@
--- `capi::facepoint_direction` meets its contract, by those of `edge_direction`, `of_direction` and `put`: another length than five is refused first of all.
+-- `capi::facepoint_direction` meets its contract, by those of `edge_direction`, `of_direction` and `put`: another
+-- length than five is refused first of all.
 use mathlib.Core.Path.{_∙_}
 use borrow.Author.Needs.{needs}
-use Rattle.fallbacks.specs.Direction.{directionOf}
+use Rattle.steps.specs.Direction.{directionOf}
 use Rattle.capi.proofs.Five.{other-length, of-five}
 use Rattle.capi.proofs.facepoint_direction.Statement.{statement}
 use Rattle.capi.proofs.facepoint_direction.Tie as tie
@@ -27,7 +28,7 @@ returns-2 : tie.Need-returns-2
 returns-2 c =
     let made = c .before .before .before .before in
     let a = made .before .before .before .before .before .args in
-    of-five (directionOf (a .points .now)) (a .result .now) _ _ (made .of-direction .result) (made .before .before .if1 .left) (made .of-direction .ensures ∙ made .before .edge-direction .ensures) (c .before .before .put .ensures)
+    of-five (directionOf (a .points .now)) (a .result .now) _ _ (made .of-direction .result) (made .before .before .if1 .left) (made .of-direction .ensures ∙ made .before .edge-direction .ensures .0) (c .before .before .put .ensures)
 
 pub facepoint-direction-spec : {M : Type 1} → statement M
 facepoint-direction-spec =

@@ -1,4 +1,5 @@
--- `capi::facepoint_image_pick` meets its contract, by those of `image_pick` and `put`: another length than five is refused first of all.
+-- `capi::facepoint_image_pick` meets its contract, by those of `image_pick` and `put`: another length than five is
+-- refused first of all.
 use borrow.Author.Needs.{needs}
 use Rattle.picker.specs.ImagePick.{imagePickOf}
 use Rattle.capi.specs.Convention.{imagePickReturned}
@@ -26,7 +27,7 @@ unfolding imagePickReturned
 returns-2 c =
     let a = c .before .before .before .before .before .before .before .before .before .args in
     let call = c .before .before .before .before .image-pick in
-    of-five (imagePickOf (a .sheet .now) (a .phase) (a .images .now)) (a .result .now) _ _ (call .result) (c .before .before .before .before .before .if1 .left) (call .ensures) (c .before .before .put .ensures)
+    of-five (imagePickOf (a .sheet .now) (a .phase) (a .images .now)) (a .result .now) _ _ (call .result) (c .before .before .before .before .before .if1 .left) (call .ensures .0) (c .before .before .put .ensures)
 
 pub facepoint-image-pick-spec : {M : Type 1} → statement M
 facepoint-image-pick-spec =

@@ -1,7 +1,8 @@
--- `capi::facepoint_placed` meets its contract, by those of `placed`, `of_position` and `put`: another length than five is refused first of all.
+-- `capi::facepoint_placed` meets its contract, by those of `placed`, `of_position` and `put`: another length than five
+-- is refused first of all.
 use mathlib.Core.Path.{_∙_}
 use borrow.Author.Needs.{needs}
-use Rattle.fallbacks.specs.Placed.{placedOf}
+use Rattle.steps.specs.Placed.{placedOf}
 use Rattle.capi.proofs.Five.{other-length, of-five}
 use Rattle.capi.proofs.facepoint_placed.Statement.{statement}
 use Rattle.capi.proofs.facepoint_placed.Tie as tie
@@ -27,7 +28,7 @@ returns-2 : tie.Need-returns-2
 returns-2 c =
     let made = c .before .before .before .before in
     let a = made .before .before .before .before .before .before .args in
-    of-five (placedOf (a .transform .now) (a .point .now)) (a .result .now) _ _ (made .of-position .result) (made .before .before .if1 .left) (made .of-position .ensures ∙ made .before .placed .ensures) (c .before .before .put .ensures)
+    of-five (placedOf (a .transform .now) (a .point .now)) (a .result .now) _ _ (made .of-position .result) (made .before .before .if1 .left) (made .of-position .ensures ∙ made .before .placed .ensures .0) (c .before .before .put .ensures)
 
 pub facepoint-placed-spec : {M : Type 1} → statement M
 facepoint-placed-spec =

@@ -1,4 +1,5 @@
--- `capi::facepoint_plane_pick` meets its contract, by those of `plane_pick` and `put`: another length than five is refused first of all.
+-- `capi::facepoint_plane_pick` meets its contract, by those of `plane_pick` and `put`: another length than five is
+-- refused first of all.
 use borrow.Author.Needs.{needs}
 use Rattle.picker.specs.PlanePick.{planePickOf}
 use Rattle.capi.specs.Convention.{planePickReturned}
@@ -26,7 +27,7 @@ unfolding planePickReturned
 returns-2 c =
     let a = c .before .before .before .before .before .before .before .before .args in
     let call = c .before .before .before .before .plane-pick in
-    of-five (planePickOf (a .sheet .now)) (a .result .now) _ _ (call .result) (c .before .before .before .before .before .if1 .left) (call .ensures) (c .before .before .put .ensures)
+    of-five (planePickOf (a .sheet .now)) (a .result .now) _ _ (call .result) (c .before .before .before .before .before .if1 .left) (call .ensures .0) (c .before .before .put .ensures)
 
 pub facepoint-plane-pick-spec : {M : Type 1} → statement M
 facepoint-plane-pick-spec =

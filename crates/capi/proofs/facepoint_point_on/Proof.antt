@@ -1,7 +1,8 @@
--- `capi::facepoint_point_on` meets its contract, by those of `point_on`, `of_position` and `put`: another length than five is refused first of all.
+-- `capi::facepoint_point_on` meets its contract, by those of `point_on`, `of_position` and `put`: another length than
+-- five is refused first of all.
 use mathlib.Core.Path.{_∙_}
 use borrow.Author.Needs.{needs}
-use Rattle.fallbacks.specs.Vertices.{pointOnOf}
+use Rattle.vertex_fallback.specs.Vertices.{pointOnOf}
 use Rattle.capi.proofs.Five.{other-length, of-five}
 use Rattle.capi.proofs.facepoint_point_on.Statement.{statement}
 use Rattle.capi.proofs.facepoint_point_on.Tie as tie
@@ -27,7 +28,7 @@ returns-2 : tie.Need-returns-2
 returns-2 c =
     let made = c .before .before .before .before in
     let a = made .before .before .before .before .before .before .before .args in
-    of-five (pointOnOf (a .u-axis .now) (a .normal .now) (a .corners .now)) (a .result .now) _ _ (made .of-position .result) (made .before .before .if1 .left) (made .of-position .ensures ∙ made .before .point-on .ensures) (c .before .before .put .ensures)
+    of-five (pointOnOf (a .u-axis .now) (a .normal .now) (a .corners .now)) (a .result .now) _ _ (made .of-position .result) (made .before .before .if1 .left) (made .of-position .ensures ∙ made .before .point-on .ensures .0) (c .before .before .put .ensures)
 
 pub facepoint-point-on-spec : {M : Type 1} → statement M
 facepoint-point-on-spec =

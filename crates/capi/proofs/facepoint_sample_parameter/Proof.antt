@@ -1,7 +1,8 @@
--- `capi::facepoint_sample_parameter` meets its contract, by those of `sample_parameter`, `of_parameter` and `put`: another length than five is refused first of all.
+-- `capi::facepoint_sample_parameter` meets its contract, by those of `sample_parameter`, `of_parameter` and `put`:
+-- another length than five is refused first of all.
 use mathlib.Core.Path.{_∙_}
 use borrow.Author.Needs.{needs}
-use Rattle.fallbacks.specs.Sample.{sampleParameterOf}
+use Rattle.steps.specs.Sample.{sampleParameterOf}
 use Rattle.capi.proofs.Five.{other-length, of-five}
 use Rattle.capi.proofs.facepoint_sample_parameter.Statement.{statement}
 use Rattle.capi.proofs.facepoint_sample_parameter.Tie as tie
@@ -27,7 +28,7 @@ returns-2 : tie.Need-returns-2
 returns-2 c =
     let made = c .before .before .before .before in
     let a = made .before .before .before .before .args in
-    of-five (sampleParameterOf (a .a) (a .b) (a .n)) (a .result .now) _ _ (made .of-parameter .result) (made .before .before .if1 .left) (made .of-parameter .ensures ∙ made .before .sample-parameter .ensures) (c .before .before .put .ensures)
+    of-five (sampleParameterOf (a .a) (a .b) (a .n)) (a .result .now) _ _ (made .of-parameter .result) (made .before .before .if1 .left) (made .of-parameter .ensures ∙ made .before .sample-parameter .ensures .0) (c .before .before .put .ensures)
 
 pub facepoint-sample-parameter-spec : {M : Type 1} → statement M
 facepoint-sample-parameter-spec =

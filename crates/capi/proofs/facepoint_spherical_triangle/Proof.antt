@@ -1,4 +1,5 @@
--- `capi::facepoint_spherical_triangle` meets its contract, by those of `spherical_triangle_of`, `of_position` and `put`: another length than five is refused first of all.
+-- `capi::facepoint_spherical_triangle` meets its contract, by those of `spherical_triangle_of`, `of_position` and
+-- `put`: another length than five is refused first of all.
 use mathlib.Core.Path.{_∙_}
 use borrow.Author.Needs.{needs}
 use Rattle.triangle.specs.Lists.{triangleListsOf}
@@ -27,7 +28,7 @@ returns-2 : tie.Need-returns-2
 returns-2 c =
     let made = c .before .before .before .before in
     let a = made .before .before .before .before .before .before .args in
-    of-five (triangleListsOf (a .centre .now) (a .radius) (a .sense) (a .sides .now)) (a .result .now) _ _ (made .of-position .result) (made .before .before .if1 .left) (made .of-position .ensures ∙ made .before .spherical-triangle-of .ensures) (c .before .before .put .ensures)
+    of-five (triangleListsOf (a .centre .now) (a .radius) (a .sense) (a .sides .now)) (a .result .now) _ _ (made .of-position .result) (made .before .before .if1 .left) (made .of-position .ensures ∙ made .before .spherical-triangle-of .ensures .0) (c .before .before .put .ensures)
 
 pub facepoint-spherical-triangle-spec : {M : Type 1} → statement M
 facepoint-spherical-triangle-spec =

@@ -1,4 +1,5 @@
--- `facepoint::read_input` is safe and ends, and counts bytes of the buffer. The invariant: n is within the buffer, which keeps its length. The measure is the room that is left, since a turn that reads nothing is the last.
+-- `facepoint::read_input` is safe and ends, and counts bytes of the buffer. The invariant: n is within the buffer,
+-- which keeps its length. The measure is the room that is left, since a turn that reads nothing is the last.
 use mathlib.Core.Path.{_≡_}
 use Prim.Native.Nat.{_-_, _≤_}
 use native.Mathlib.Omega.{arith}

@@ -1,4 +1,5 @@
--- `plates::before_spaces` is how many bytes stand before the spaces at the end. The invariant: all from n on are spaces. The measure is n.
+-- `plates::before_spaces` is how many bytes stand before the spaces at the end. The invariant: all from n on are
+-- spaces. The measure is n.
 use mathlib.Core.Path.{sym, ap, _∙_, _≡_}
 use mathlib.Core.Logic.{⊎-elim}
 use Prim.Native.Nat.{ℕ, _≤_, _<_}

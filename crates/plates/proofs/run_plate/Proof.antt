@@ -1,4 +1,5 @@
--- `plates::run_plate` is safe: the name is a part of what was read, and the lengths that it lends by are those of a head, which are tested.
+-- `plates::run_plate` is safe: the name is a part of what was read, and the lengths that it lends by are those of a
+-- head, which are tested.
 use mathlib.Core.Path.{sym}
 use Prim.Native.Nat.{_≤_}
 use native.Mathlib.Omega.{arith}

@@ -1,4 +1,5 @@
--- `plates::run_plates` is safe and ends. Nothing has to hold from turn to turn. The measure is what is left of the 10000 plates.
+-- `plates::run_plates` is safe and ends. Nothing has to hold from turn to turn. The measure is what is left of the
+-- 10000 plates.
 use Prim.Native.Nat.{_-_}
 use borrow.Author.Needs.{needs}
 use Rattle.plates.proofs.run_plates.Statement.{statement}

@@ -1,4 +1,5 @@
--- `replay::is_recorded` says whether the record has the numbers: each call is what its own contract says, put in one behind the other.
+-- `replay::is_recorded` says whether the record has the numbers: each call is what its own contract says, put in one
+-- behind the other.
 use borrow.Author.Needs.{needs}
 use Rattle.replay.specs.Recorded.{recorded}
 use Rattle.replay.proofs.is_recorded.Statement.{statement}

@@ -21,8 +21,11 @@ shared-slice-read-sample-parameter-2 c = search needs
 sample-parameter-requires : tie.Need-sample-parameter-requires
 sample-parameter-requires c κs = search needs
 
-compared-parameter-requires : tie.Need-compared-parameter-requires
-compared-parameter-requires c κs = search needs
+of-parameter-requires : tie.Need-of-parameter-requires
+of-parameter-requires c κs = search needs
+
+compared-requires : tie.Need-compared-requires
+compared-requires c κs = search needs
 
 enum-told-2 : tie.Need-enum-told-2
 enum-told-2 c = search needs
@@ -30,8 +33,11 @@ enum-told-2 c = search needs
 edge-direction-requires : tie.Need-edge-direction-requires
 edge-direction-requires c κs = search needs
 
-compared-direction-requires : tie.Need-compared-direction-requires
-compared-direction-requires c κs = search needs
+of-direction-requires : tie.Need-of-direction-requires
+of-direction-requires c κs = search needs
+
+compared-requires-2 : tie.Need-compared-requires-2
+compared-requires-2 c κs = search needs
 
 enum-told-3 : tie.Need-enum-told-3
 enum-told-3 c = search needs
@@ -54,8 +60,11 @@ part-spherical-triangle-of-end c = search needs
 spherical-triangle-of-requires : tie.Need-spherical-triangle-of-requires
 spherical-triangle-of-requires c κs = search needs
 
-compared-position-requires : tie.Need-compared-position-requires
-compared-position-requires c κs = search needs
+of-position-requires : tie.Need-of-position-requires
+of-position-requires c κs = search needs
+
+compared-requires-3 : tie.Need-compared-requires-3
+compared-requires-3 c κs = search needs
 
 enum-told-4 : tie.Need-enum-told-4
 enum-told-4 c = search needs
@@ -81,8 +90,11 @@ part-point-on-end c = search needs
 point-on-requires : tie.Need-point-on-requires
 point-on-requires c κs = search needs
 
-compared-position-requires-2 : tie.Need-compared-position-requires-2
-compared-position-requires-2 c κs = search needs
+of-position-requires-2 : tie.Need-of-position-requires-2
+of-position-requires-2 c κs = search needs
+
+compared-requires-4 : tie.Need-compared-requires-4
+compared-requires-4 c κs = search needs
 
 enum-told-5 : tie.Need-enum-told-5
 enum-told-5 c = search needs
@@ -90,8 +102,11 @@ enum-told-5 c = search needs
 cylinder-point-requires : tie.Need-cylinder-point-requires
 cylinder-point-requires c κs = search needs
 
-compared-middle-requires : tie.Need-compared-middle-requires
-compared-middle-requires c κs = search needs
+of-middle-requires : tie.Need-of-middle-requires
+of-middle-requires c κs = search needs
+
+compared-requires-5 : tie.Need-compared-requires-5
+compared-requires-5 c κs = search needs
 
 enum-told-6 : tie.Need-enum-told-6
 enum-told-6 c = search needs
@@ -99,8 +114,11 @@ enum-told-6 c = search needs
 placed-requires : tie.Need-placed-requires
 placed-requires c κs = search needs
 
-compared-position-requires-3 : tie.Need-compared-position-requires-3
-compared-position-requires-3 c κs = search needs
+of-position-requires-3 : tie.Need-of-position-requires-3
+of-position-requires-3 c κs = search needs
+
+compared-requires-6 : tie.Need-compared-requires-6
+compared-requires-6 c κs = search needs
 
 returns-4 : tie.Need-returns-4
 returns-4 c = search needs
@@ -132,10 +150,12 @@ judge-after-spec =
     shared-slice-read-sample-parameter
     shared-slice-read-sample-parameter-2
     sample-parameter-requires
-    compared-parameter-requires
+    of-parameter-requires
+    compared-requires
     enum-told-2
     edge-direction-requires
-    compared-direction-requires
+    of-direction-requires
+    compared-requires-2
     enum-told-3
     returns-2
     shared-slice-read-spherical-triangle-of
@@ -143,7 +163,8 @@ judge-after-spec =
     part-spherical-triangle-of-start
     part-spherical-triangle-of-end
     spherical-triangle-of-requires
-    compared-position-requires
+    of-position-requires
+    compared-requires-3
     enum-told-4
     returns-3
     slice-aggregate-point-on
@@ -152,13 +173,16 @@ judge-after-spec =
     part-point-on-start
     part-point-on-end
     point-on-requires
-    compared-position-requires-2
+    of-position-requires-2
+    compared-requires-4
     enum-told-5
     cylinder-point-requires
-    compared-middle-requires
+    of-middle-requires
+    compared-requires-5
     enum-told-6
     placed-requires
-    compared-position-requires-3
+    of-position-requires-3
+    compared-requires-6
     returns-4
     returns-5
     returns-6

@@ -1,4 +1,5 @@
--- `replay::run_records` is safe and ends. The invariant: at most 100000 records are read, and no more are points or wrong than are read. The measure is what is left of the 100000.
+-- `replay::run_records` is safe and ends. The invariant: at most 100000 records are read, and no more are points or
+-- wrong than are read. The measure is what is left of the 100000.
 use mathlib.Core.Logic.{⊎-elim}
 use Prim.Native.Nat.{_-_, _≤_}
 use native.Mathlib.Omega.{arith}

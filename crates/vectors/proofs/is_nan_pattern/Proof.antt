@@ -1,4 +1,5 @@
--- `vectors::is_nan_pattern` says whether the bits are a NaN's: without the sign's bit, a NaN's pattern is a number above the infinity's.
+-- `vectors::is_nan_pattern` says whether the bits are a NaN's: without the sign's bit, a NaN's pattern is a number
+-- above the infinity's.
 use mathlib.Core.Path.{sym}
 use lib.Ieee.{binary64}
 use lib.Ieee.Bits.{nanBits-above}

@@ -1,4 +1,5 @@
--- `vectors::number` is safe and ends: the sixteen digits lie within the line. The measure is the number of digits that are left.
+-- `vectors::number` is safe and ends: the sixteen digits lie within the line. The measure is the number of digits that
+-- are left.
 -- Nothing has to hold from turn to turn, so the invariant is `Unit {0}`, the fact that says nothing.
 use Prim.Native.Nat.{_-_}
 use borrow.Author.Needs.{needs}

@@ -1,4 +1,5 @@
--- `vectors::run_lines` is safe and ends. The invariant: at most 3000 lines are read, and no more are wrong than are read. The measure is what is left of the 3000.
+-- `vectors::run_lines` is safe and ends. The invariant: at most 3000 lines are read, and no more are wrong than are
+-- read. The measure is what is left of the 3000.
 use Prim.Native.Nat.{_-_, _≤_}
 use mathlib.Core.Logic.{⊎-elim}
 use native.Mathlib.Omega.{arith}

@@ -1,4 +1,5 @@
--- `vectors::same` says whether the bits stand for x. Where x is a NaN, they do where they are a NaN's pattern. Elsewhere x has one pattern, which is `toBits` of it.
+-- `vectors::same` says whether the bits stand for x. Where x is a NaN, they do where they are a NaN's pattern.
+-- Elsewhere x has one pattern, which is `toBits` of it.
 use mathlib.Core.Path.{sym, ap, _∙_, subst}
 use mathlib.Core.Bool.{not}
 use lib.Dec.{T}

@@ -1,7 +1,7 @@
 -- `answers::numbers::is_missing` is `missing`: by the length, then by the numbers.
 use borrow.Author.Needs.{needs}
 use borrow.Author.Tests.{eq-eqb, ne-eqb}
-use Rattle.answers.specs.Missing.{missing}
+use Rattle.answers.specs.Limits.{missing}
 use Rattle.answers.proofs.numbers.is_missing.Statement.{statement}
 use Rattle.answers.proofs.numbers.is_missing.Tie as tie
 

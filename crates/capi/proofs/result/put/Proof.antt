@@ -3,7 +3,7 @@ use mathlib.Core.Path.{ap, _∙_}
 use native.Mathlib.Omega.{arith}
 use lib.ListN.{length-set}
 use borrow.Author.Needs.{needs}
-use Rattle.chart.specs.Answer.{paper}
+use Rattle.answers.specs.Answers.{paper}
 use Rattle.capi.proofs.Five.{five-stored, point-five, refused-five}
 use Rattle.capi.proofs.result.put.Statement.{statement}
 use Rattle.capi.proofs.result.put.Tie as tie

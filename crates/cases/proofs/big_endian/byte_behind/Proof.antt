@@ -1,4 +1,5 @@
--- `cases::big_endian::byte_behind` is the byte, or 0 where the place is past the end. The sum is made only where it is within the bytes.
+-- `cases::big_endian::byte_behind` is the byte, or 0 where the place is past the end. The sum is made only where it is
+-- within the bytes.
 use mathlib.Core.Path.{sym}
 use Prim.Native.Nat.{_+_, _≤_}
 use native.Mathlib.Omega.{arith}

@@ -1,4 +1,5 @@
--- `cases::big_endian::number` is the number of its bytes. The invariant: n is that of the first i, and below 256^i, so that one byte more fits. The measure is the number of bytes that are left.
+-- `cases::big_endian::number` is the number of its bytes. The invariant: n is that of the first i, and below 256^i, so
+-- that one byte more fits. The measure is the number of bytes that are left.
 use mathlib.Core.Path.{refl, _≡_}
 use Prim.Native.Nat.{_+_, _-_, _≤_, _<_, _^_}
 use native.Mathlib.Omega.{arith}

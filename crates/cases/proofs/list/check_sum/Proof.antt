@@ -1,4 +1,6 @@
--- `cases::list::check_sum` is the weighted sum modulo 2^64. The invariant: sum and total are those of the places from k on. For a place in front the total takes the sum as it was and then the new one: what stands behind weighs two more, and the place itself one. The measure is k.
+-- `cases::list::check_sum` is the weighted sum modulo 2^64. The invariant: sum and total are those of the places from k
+-- on. For a place in front the total takes the sum as it was and then the new one: what stands behind weighs two more,
+-- and the place itself one. The measure is k.
 use mathlib.Core.Path.{_≡_}
 use Prim.Native.Nat.{_≤_, _%_, _^_}
 use native.Mathlib.Omega.{arith}

@@ -1,4 +1,5 @@
--- `cases::list::fill` puts x in every place. The invariant: the first k places hold x, and the others what they held. The measure is the number of places that are left.
+-- `cases::list::fill` puts x in every place. The invariant: the first k places hold x, and the others what they held.
+-- The measure is the number of places that are left.
 use mathlib.Core.Path.{_∙_, _≡_}
 use mathlib.Core.List.{_++_}
 use Prim.Native.Nat.{_<_, _-_, _≤_}

@@ -1,4 +1,5 @@
--- `cases::list::wrong_places` counts the places that the numbers do not show. The invariant: what is counted, and what is to be counted from k on, are together the whole. The measure is the number of places that are left.
+-- `cases::list::wrong_places` counts the places that the numbers do not show. The invariant: what is counted, and what
+-- is to be counted from k on, are together the whole. The measure is the number of places that are left.
 use mathlib.Core.Path.{_∙_, _≡_}
 use mathlib.Core.Bool.{cond}
 use mathlib.Core.Logic.{⊎-elim}

@@ -1,4 +1,5 @@
--- `cases::record::head_of` is the head, by the ways out of its tests: nothing is left of the file, too little, a length above the longest, a call.
+-- `cases::record::head_of` is the head, by the ways out of its tests: nothing is left of the file, too little, a length
+-- above the longest, a call.
 use mathlib.Core.Path.{_∙_}
 use borrow.Author.Needs.{needs}
 use Rattle.cases.proofs.Heads.{no-head, cut-head, full-head, long-sheet, long-list, whole-head}

@@ -1,4 +1,5 @@
--- `leaves::nearest::nearest_whole` is `roundOf`. x is a / c. Below 2 ^ (prec - 1) the format holds twice x, so the sum is exact and n is the whole part of 2a / c.
+-- `leaves::nearest::nearest_whole` is `roundOf`. x is a / c. Below 2 ^ (prec - 1) the format holds twice x, so the sum
+-- is exact and n is the whole part of 2a / c.
 -- Then (n + 1) / 2 is the whole part of (2a + c) / 2c, and is small enough to be cast without loss.
 use mathlib.Core.Path.{_≡_, sym, ap, _∙_, subst}
 use mathlib.Core.Bool.{true, false, true≢false}

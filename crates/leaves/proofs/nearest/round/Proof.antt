@@ -1,4 +1,5 @@
--- `leaves::nearest::round` is `roundOf`: a negative value is rounded as its magnitude is, and what is not rounded has no fraction. From 2 ^ 52 on no value has one.
+-- `leaves::nearest::round` is `roundOf`: a negative value is rounded as its magnitude is, and what is not rounded has
+-- no fraction. From 2 ^ 52 on no value has one.
 use mathlib.Core.Path.{_≡_, refl, sym, ap, _∙_, subst}
 use mathlib.Core.Bool.{Bool, true, false, not}
 use Prim.Native.Nat.{_+_, _*_, _^_}

@@ -1,4 +1,5 @@
--- `leaves::square_root::digits` finds the digits of the radicand's root. The invariant is `Found`, the measure the number of digits still to be found.
+-- `leaves::square_root::digits` finds the digits of the radicand's root. The invariant is `Found`, the measure the
+-- number of digits still to be found.
 use mathlib.Core.Path.{_≡_, subst}
 use Prim.Native.Nat.{ℕ, _-_, _*_, _%_, _^_, _≤_}
 use native.Mathlib.Omega.{arith}

@@ -1,4 +1,5 @@
--- `leaves::square_root::root` is `rootOf`: above zero by `root_above_zero`, below it a NaN, and zeros and a NaN themselves.
+-- `leaves::square_root::root` is `rootOf`: above zero by `root_above_zero`, below it a NaN, and zeros and a NaN
+-- themselves.
 use mathlib.Core.Path.{sym, subst}
 use mathlib.Core.Bool.{Bool, not}
 use lib.Dec.{T}

@@ -1,4 +1,5 @@
--- `leaves::square_root::root_above_zero`: the fields of the bits say what the value is, and each arm takes the root of that fraction.
+-- `leaves::square_root::root_above_zero`: the fields of the bits say what the value is, and each arm takes the root of
+-- that fraction.
 use mathlib.Core.Path.{_≡_, sym, subst}
 use Prim.Native.Nat.{ℕ, _+_, _-_, _/_, _%_, _^_, _<_}
 use native.Mathlib.Omega.{arith}

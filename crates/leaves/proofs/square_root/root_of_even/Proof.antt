@@ -1,4 +1,5 @@
--- `leaves::square_root::root_of_even`: the engine's 54 digits, the last one rounded away and packed, are the root's bits.
+-- `leaves::square_root::root_of_even`: the engine's 54 digits, the last one rounded away and packed, are the root's
+-- bits.
 use mathlib.Core.Path.{_≡_, refl, ap, _∙_}
 use Prim.Native.Nat.{ℕ, _+_, _*_, _/_, _^_}
 use native.Mathlib.Omega.{arith}

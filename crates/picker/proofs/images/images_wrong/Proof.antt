@@ -1,4 +1,5 @@
--- `picker::images::images_wrong` is `imagesWrong`: the count of the points' numbers is even, so half of it is how many points there are.
+-- `picker::images::images_wrong` is `imagesWrong`: the count of the points' numbers is even, so half of it is how many
+-- points there are.
 use mathlib.Core.Path.{_≡_, sym, _∙_}
 use mathlib.Core.Bool.{true}
 use mathlib.Core.List.{List}
@@ -9,10 +10,10 @@ use lib.ListN.{length}
 use borrow.Author.Needs.{needs}
 use borrow.Author.Tests.{eq-eqb, ne-eqb}
 use Rattle.sheet.specs.Content.{Sheet}
-use Rattle.sheet.specs.Lists.{anyOf}
+use Rattle.answers.specs.Lists.{anyOf}
 use Rattle.sheet.specs.Layout.{sheetOf}
-use Rattle.sheet.specs.Checks.{beyond}
-use Rattle.chart.specs.Chart.{pointCount}
+use Rattle.answers.specs.Limits.{beyond}
+use Rattle.frame.specs.Framing.{pointCount}
 use Rattle.picker.specs.ImagePick.{imageLimit, imagesWrong}
 use Rattle.picker.proofs.images.images_wrong.Statement.{statement}
 use Rattle.picker.proofs.images.images_wrong.Tie as tie

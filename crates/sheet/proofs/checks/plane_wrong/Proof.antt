@@ -1,4 +1,5 @@
--- `sheet::checks::plane_wrong` is check 7 of the plane: the first three of its nine numbers are the origin. No other kind has a plane.
+-- `sheet::checks::plane_wrong` is check 7 of the plane: the first three of its nine numbers are the origin. No other
+-- kind has a plane.
 use mathlib.Core.Path.{sym, _∙_}
 use Rattle.sheet.proofs.Walks.{plane-is, no-plane}
 use borrow.Author.Needs.{needs}

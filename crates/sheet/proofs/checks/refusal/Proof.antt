@@ -1,12 +1,14 @@
--- `sheet::checks::refusal` is the number of the first check that fails: the tests come in the table's order, and each answer has the facts of the tests before it.
+-- `sheet::checks::refusal` is the number of the first check that fails: the tests come in the table's order, and each
+-- answer has the facts of the tests before it.
 -- Check 5 has passed where the rings are walked, so the blocks fill the sheet.
 use mathlib.Core.Path.{_≡_, sym, ap, _∙_}
 use mathlib.Core.Bool.{cond, _||_}
 use mathlib.Core.List.{List, _++_}
 use Prim.Native.Nat.{ℕ}
-use Rattle.sheet.specs.Lists.{anyOf}
+use Rattle.answers.specs.Lists.{anyOf}
 use Rattle.sheet.specs.Layout.{kind, headSize, plane, sheetOf}
-use Rattle.sheet.specs.Checks.{versionWrong, kindWrong, countWrong, blocksWrong, coedgesWrong, planeWrong, ringWrong, first, layoutChecks, contentChecks}
+use Rattle.sheet.specs.Checks.{versionWrong, kindWrong, countWrong, blocksWrong, coedgesWrong, planeWrong, ringWrong, layoutChecks, contentChecks}
+use Rattle.answers.specs.Outcome.{first}
 use Rattle.sheet.proofs.Checked.{ringsOf, table, blocks-right, head-size-most}
 use borrow.Author.Needs.{needs}
 use Rattle.sheet.proofs.checks.refusal.Statement.{statement}

@@ -1,4 +1,5 @@
--- `sheet::fields::float` gives what the bits stand for, save that a zero has no sign: 0 / 0 is `nan`, and so is what a NaN's pattern stands for.
+-- `sheet::fields::float` gives what the bits stand for, save that a zero has no sign: 0 / 0 is `nan`, and so is what a
+-- NaN's pattern stands for.
 use mathlib.Core.Path.{sym, _∙_, subst}
 use mathlib.Core.Bool.{Bool, not}
 use lib.Dec.{T}

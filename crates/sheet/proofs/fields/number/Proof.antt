@@ -1,4 +1,5 @@
--- `sheet::fields::number` is the f64 at the place: `+0` where fewer than eight bytes are left, else the two words there as one pattern.
+-- `sheet::fields::number` is the f64 at the place: `+0` where fewer than eight bytes are left, else the two words there
+-- as one pattern.
 use mathlib.Core.Path.{sym, ap, _∙_}
 use native.Mathlib.Omega.{arith}
 use lib.ListN.{drop, length-drop}

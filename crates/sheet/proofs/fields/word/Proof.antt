@@ -1,4 +1,5 @@
--- `sheet::fields::word` is the four bytes at the place, big-endian: each byte is below 256, so no part wraps, and the law of four bytes says the rest.
+-- `sheet::fields::word` is the four bytes at the place, big-endian: each byte is below 256, so no part wraps, and the
+-- law of four bytes says the rest.
 use native.Mathlib.Omega.{arith}
 use Rattle.sheet.proofs.Bytes.{word-at}
 use borrow.Author.Needs.{needs}

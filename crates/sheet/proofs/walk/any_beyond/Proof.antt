@@ -1,14 +1,17 @@
--- `sheet::walk::any_beyond` says whether any of the numbers is beyond the limit. The invariant: any of those from the k-th on is where any of all is.
--- A number that is beyond ends the loop, one that is not leaves the answer to the rest. The measure is how many are left.
+-- `sheet::walk::any_beyond` says whether any of the numbers is beyond the limit. The invariant: any of those from the
+-- k-th on is where any of all is.
+-- A number that is beyond ends the loop, one that is not leaves the answer to the rest. The measure is how many are
+-- left.
 use mathlib.Core.Path.{_≡_, sym, ap, _∙_}
 use Prim.Native.Nat.{_+_, _-_, _*_, _≤_}
 use native.Mathlib.Nat.{sub-zero, add-zero}
 use native.Mathlib.Omega.{arith}
 use lib.ListN.{drop}
-use Rattle.sheet.specs.Lists.{anyOf}
+use Rattle.answers.specs.Lists.{anyOf}
 use Rattle.sheet.specs.Layout.{numbers}
-use Rattle.sheet.specs.Checks.{beyond}
-use Rattle.sheet.proofs.Walks.{any-found, any-passed, any-none, numbers-step, numbers-end}
+use Rattle.answers.specs.Limits.{beyond}
+use Rattle.answers.proofs.AnyOf.{any-found, any-passed, any-none}
+use Rattle.sheet.proofs.Walks.{numbers-step, numbers-end}
 use borrow.Author.Needs.{needs}
 use Rattle.sheet.proofs.walk.any_beyond.Statement.{statement}
 use Rattle.sheet.proofs.walk.any_beyond.Tie as tie

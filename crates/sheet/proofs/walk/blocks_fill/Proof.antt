@@ -1,4 +1,5 @@
--- `sheet::walk::blocks_fill` says whether the blocks fill the bytes from `from` on. The invariant: what is left of the blocks fills the bytes from `at` on as all fill all.
+-- `sheet::walk::blocks_fill` says whether the blocks fill the bytes from `from` on. The invariant: what is left of the
+-- blocks fills the bytes from `at` on as all fill all.
 -- A block that overruns the end ends the loop, another leaves the answer to the rest. The measure is how many are left.
 use mathlib.Core.Path.{_≡_, sym, _∙_}
 use Prim.Native.Nat.{_-_, _≤_}

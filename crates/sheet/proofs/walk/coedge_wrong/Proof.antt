@@ -1,4 +1,5 @@
--- `sheet::walk::coedge_wrong` says whether check 7 fails on the coedge at the place: its deviation is tested first, then the 34 numbers of its points.
+-- `sheet::walk::coedge_wrong` says whether check 7 fails on the coedge at the place: its deviation is tested first,
+-- then the 34 numbers of its points.
 use lib.ListN.{drop}
 use lib.Seq.{drop-drop}
 use Rattle.sheet.proofs.Walks.{coedge-is}

@@ -1,5 +1,7 @@
--- `sheet::walk::coedges_wrong` says whether check 6 fails. The invariant: it fails on the rings from `at` on, with `total` coedges counted before them, as on all;
--- a block has at most 71401 bytes and a ring at most 255 coedges, so neither sum wraps. A ring with no coedge ends the loop, another adds its count. The measure is how many are left.
+-- `sheet::walk::coedges_wrong` says whether check 6 fails. The invariant: it fails on the rings from `at` on, with
+-- `total` coedges counted before them, as on all;
+-- a block has at most 71401 bytes and a ring at most 255 coedges, so neither sum wraps. A ring with no coedge ends the
+-- loop, another adds its count. The measure is how many are left.
 use mathlib.Core.Path.{_≡_, sym, _∙_}
 use mathlib.Core.List.{map}
 use Prim.Native.Nat.{_+_, _-_, _*_, _≤_}

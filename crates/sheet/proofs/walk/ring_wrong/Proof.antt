@@ -1,14 +1,16 @@
--- `sheet::walk::ring_wrong` says whether check 7 fails on any coedge. The invariant: on those from the k-th on it fails as on all.
+-- `sheet::walk::ring_wrong` says whether check 7 fails on any coedge. The invariant: on those from the k-th on it fails
+-- as on all.
 -- A coedge on which it fails ends the loop, another leaves the answer to the rest. The measure is how many are left.
 use mathlib.Core.Path.{_≡_, sym, _∙_}
 use Prim.Native.Nat.{_+_, _-_, _*_, _≤_}
 use native.Mathlib.Nat.{sub-zero}
 use native.Mathlib.Omega.{arith}
 use lib.ListN.{drop}
-use Rattle.sheet.specs.Lists.{anyOf}
+use Rattle.answers.specs.Lists.{anyOf}
 use Rattle.sheet.specs.Layout.{coedges, ring}
 use Rattle.sheet.specs.Checks.{coedgeWrong, ringWrong}
-use Rattle.sheet.proofs.Walks.{any-found, any-passed, any-none, coedges-step, coedges-end}
+use Rattle.answers.proofs.AnyOf.{any-found, any-passed, any-none}
+use Rattle.sheet.proofs.Walks.{coedges-step, coedges-end}
 use borrow.Author.Needs.{needs}
 use Rattle.sheet.proofs.walk.ring_wrong.Statement.{statement}
 use Rattle.sheet.proofs.walk.ring_wrong.Tie as tie

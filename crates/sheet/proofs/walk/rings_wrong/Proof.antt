@@ -1,4 +1,5 @@
--- `sheet::walk::rings_wrong` says whether check 7 fails on any ring. The invariant: on the rings from `at` on it fails as on all, and the blocks left fill the bytes left, so each block is a part of the sheet.
+-- `sheet::walk::rings_wrong` says whether check 7 fails on any ring. The invariant: on the rings from `at` on it fails
+-- as on all, and the blocks left fill the bytes left, so each block is a part of the sheet.
 -- A ring on which it fails ends the loop, another leaves the answer to the rest. The measure is how many are left.
 use mathlib.Core.Path.{_≡_, sym, ap, _∙_}
 use mathlib.Core.Bool.{true}
@@ -7,10 +8,11 @@ use Prim.Native.Nat.{ℕ, _+_, _-_, _≤_}
 use native.Mathlib.Nat.{sub-zero}
 use native.Mathlib.Omega.{arith}
 use lib.ListN.{length, take, drop}
-use Rattle.sheet.specs.Lists.{anyOf}
+use Rattle.answers.specs.Lists.{anyOf}
 use Rattle.sheet.specs.Layout.{blockSize, cut, ring}
 use Rattle.sheet.specs.Checks.{fill, ringWrong}
-use Rattle.sheet.proofs.Walks.{any-found, any-passed, any-none, rings-step, rings-end, fill-step, fill-room}
+use Rattle.answers.proofs.AnyOf.{any-found, any-passed, any-none}
+use Rattle.sheet.proofs.Walks.{rings-step, rings-end, fill-step, fill-room}
 use borrow.Author.Needs.{needs}
 use Rattle.sheet.proofs.walk.rings_wrong.Statement.{statement}
 use Rattle.sheet.proofs.walk.rings_wrong.Tie as tie

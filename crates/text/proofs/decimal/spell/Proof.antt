@@ -1,4 +1,5 @@
--- `text::decimal::spell` puts the digits of n at the end of the text. The invariant: the digits of the rest, and then the text behind i, are the digits of n, and i places and one hold the digits of the rest. The measure is the rest.
+-- `text::decimal::spell` puts the digits of n at the end of the text. The invariant: the digits of the rest, and then
+-- the text behind i, are the digits of n, and i places and one hold the digits of the rest. The measure is the rest.
 use mathlib.Core.Path.{_≡_}
 use mathlib.Core.List.{[], _++_, append-nil}
 use Prim.Native.Nat.{_+_, _^_, _≤_, _<_}

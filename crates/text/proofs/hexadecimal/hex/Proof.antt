@@ -1,4 +1,5 @@
--- `text::hexadecimal::hex` is the sixteen digits of n. The invariant: the first i digits of the rest, and then the text from i on, are the digits of n. The measure is the number of digits that are left.
+-- `text::hexadecimal::hex` is the sixteen digits of n. The invariant: the first i digits of the rest, and then the text
+-- from i on, are the digits of n. The measure is the number of digits that are left.
 use mathlib.Core.Path.{refl, _≡_}
 use mathlib.Core.List.{append-nil, _++_}
 use Prim.Native.Nat.{_≤_}

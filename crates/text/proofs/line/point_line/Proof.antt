@@ -1,4 +1,5 @@
--- `text::line::point_line` lays a point's text and a newline into the page: at most 81 bytes, for which the local line has room.
+-- `text::line::point_line` lays a point's text and a newline into the page: at most 81 bytes, for which the local line
+-- has room.
 use mathlib.Core.Path.{refl}
 use mathlib.Core.List.{[], _∷_}
 use native.Mathlib.Omega.{arith}

@@ -1,4 +1,5 @@
--- `text::line::refusal_line` lays a refusal's number and a newline into the page: at most eleven bytes, for which the local line has room.
+-- `text::line::refusal_line` lays a refusal's number and a newline into the page: at most eleven bytes, for which the
+-- local line has room.
 use mathlib.Core.Path.{refl}
 use mathlib.Core.List.{[], _∷_}
 use native.Mathlib.Omega.{arith}

@@ -1,4 +1,5 @@
--- `text::line::spell_point` puts a point's numbers at the start of the text, one behind the other: 1 + 4 x 17 + 1 bytes and at most ten digits.
+-- `text::line::spell_point` puts a point's numbers at the start of the text, one behind the other: 1 + 4 x 17 + 1 bytes
+-- and at most ten digits.
 use mathlib.Core.Path.{_∙_}
 use mathlib.Core.List.{List, [], _∷_, _++_, append-assoc}
 use Prim.Native.Nat.{ℕ, _+_}

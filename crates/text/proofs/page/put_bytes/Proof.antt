@@ -1,4 +1,5 @@
--- `text::page::put_bytes` lays the bytes into the page, where there is room for all. The invariant: the first k of them are laid. The measure is the number of bytes that are left.
+-- `text::page::put_bytes` lays the bytes into the page, where there is room for all. The invariant: the first k of them
+-- are laid. The measure is the number of bytes that are left.
 use mathlib.Core.Path.{_≡_, refl, _∙_}
 use Prim.Native.Nat.{_+_, _-_, _<_, _≤_}
 use native.Mathlib.Numerals.{add-one}

@@ -1,4 +1,5 @@
--- `lists::circle_at` meets its contract: the definition's four numbers, read at its places, which are in the list as the side's nineteen are.
+-- `lists::circle_at` meets its contract: the definition's four numbers, read at its places, which are in the list as
+-- the side's nineteen are.
 use mathlib.Core.Path.{refl}
 use borrow.Author.Needs.{needs}
 use Rattle.triangle.specs.Lists.{circleFrom}

@@ -1,4 +1,5 @@
--- `lists::ends_at` meets its contract: the definition's two places, which are in the list as the side's nineteen numbers are.
+-- `lists::ends_at` meets its contract: the definition's two places, which are in the list as the side's nineteen
+-- numbers are.
 use borrow.Author.Needs.{needs}
 use Rattle.triangle.specs.Lists.{endsFrom}
 use Rattle.triangle.proofs.lists.ends_at.Statement.{statement}

@@ -1,4 +1,5 @@
--- `lists::evaluated_at` meets its contract: the definition's two places, which are in the list as the side's nineteen numbers are.
+-- `lists::evaluated_at` meets its contract: the definition's two places, which are in the list as the side's nineteen
+-- numbers are.
 use borrow.Author.Needs.{needs}
 use Rattle.triangle.specs.Lists.{evaluatedFrom}
 use Rattle.triangle.proofs.lists.evaluated_at.Statement.{statement}

@@ -1,4 +1,5 @@
--- `lists::lists_wrong` meets its contract: the definition's five tests in its order, each return where one of them holds or at the last. The reads are in the list, whose length is 57 there.
+-- `lists::lists_wrong` meets its contract: the definition's five tests in its order, each return where one of them
+-- holds or at the last. The reads are in the list, whose length is 57 there.
 use mathlib.Core.Path.{_≡_}
 use mathlib.Core.Bool.{_||_}
 use lib.Ieee.{nan}

@@ -1,4 +1,5 @@
--- `lists::range_at` meets its contract: the definition's two numbers, read at its places, which are in the list as the side's nineteen are.
+-- `lists::range_at` meets its contract: the definition's two numbers, read at its places, which are in the list as the
+-- side's nineteen are.
 use mathlib.Core.Path.{refl}
 use borrow.Author.Needs.{needs}
 use Rattle.triangle.specs.Lists.{rangeFrom}

@@ -1,4 +1,5 @@
--- `lists::reversed_at` meets its contract: the definition's flag's comparison, read at its places, which are in the list as the side's nineteen are.
+-- `lists::reversed_at` meets its contract: the definition's flag's comparison, read at its places, which are in the
+-- list as the side's nineteen are.
 use mathlib.Core.Path.{refl}
 use borrow.Author.Needs.{needs}
 use Rattle.triangle.specs.Lists.{reversedFrom}

@@ -1,10 +1,11 @@
--- `lists::spherical_triangle_of` meets its contract: where a list is wrong it refuses by 16; else the sides' list has 57 numbers, so each side's nineteen stand in it, and the answer is that of `spherical_triangle` on the
--- arrays, which are the definition's by what each reader ensures.
+-- `lists::spherical_triangle_of` meets its contract: where a list is wrong it refuses by 16; else the sides' list has
+-- 57 numbers, so each side's nineteen stand in it, and the answer is that of `spherical_triangle` on the arrays, which
+-- are the definition's by what each reader ensures.
 use mathlib.Core.Path.{_≡_, sym, _∙_}
 use native.Mathlib.Omega.{arith}
 use lib.ListN.{length}
 use borrow.Author.Needs.{needs}
-use Rattle.answers.proofs.Papers.{paper-no-position}
+use Rattle.answers.proofs.Papers.{paper-no-position, refused-no-position}
 use Rattle.triangle.proofs.ListCases.{lists-wrong-is, lists-right-is, lists-right-length}
 use Rattle.triangle.proofs.lists.spherical_triangle_of.Statement.{statement}
 use Rattle.triangle.proofs.lists.spherical_triangle_of.Tie as tie
@@ -15,7 +16,7 @@ lists-wrong-requires c κs = search needs
 returns : tie.Need-returns
 returns c =
     let a = c .before .before .before .before .args in
-    paper-no-position 16 ∙ sym (lists-wrong-is (a .centre .now) (a .radius) (a .sense) (a .sides .now) (sym (c .before .lists-wrong .ensures) ∙ c .if1 .taken))
+    (paper-no-position 16 ∙ sym (lists-wrong-is (a .centre .now) (a .radius) (a .sense) (a .sides .now) (sym (c .before .lists-wrong .ensures) ∙ c .if1 .taken)), refused-no-position 16 (λ z. omega (arith, z)))
 
 -- the length, where no list is wrong
 long : (c : tie.Else1) → length (c .before .before .before .before .args .sides .now) ≡ 57
@@ -82,27 +83,29 @@ returns-2 c =
     let flags = circles .before .before .before in
     let ends = flags .before .before .before in
     let start = ends .before .before .before in
-    let a = start .before .before .before .before .args in
-    rw (
-      c .spherical-triangle .ensures,
-      c .before .place-at .ensures,
-      ends .ends-at3 .ensures,
-      ends .before .ends-at2 .ensures,
-      ends .before .before .ends-at .ensures,
-      flags .reversed-at3 .ensures,
-      flags .before .reversed-at2 .ensures,
-      flags .before .before .reversed-at .ensures,
-      circles .circle-at3 .ensures,
-      circles .before .circle-at2 .ensures,
-      circles .before .before .circle-at .ensures,
-      ranges .range-at3 .ensures,
-      ranges .before .range-at2 .ensures,
-      ranges .before .before .range-at .ensures,
-      evaluated .evaluated-at3 .ensures,
-      evaluated .before .evaluated-at2 .ensures,
-      evaluated .before .before .evaluated-at .ensures,
+    let a = start .before .before .before .before .args in (
+      rw (
+        c .spherical-triangle .ensures .0,
+        c .before .place-at .ensures,
+        ends .ends-at3 .ensures,
+        ends .before .ends-at2 .ensures,
+        ends .before .before .ends-at .ensures,
+        flags .reversed-at3 .ensures,
+        flags .before .reversed-at2 .ensures,
+        flags .before .before .reversed-at .ensures,
+        circles .circle-at3 .ensures,
+        circles .before .circle-at2 .ensures,
+        circles .before .before .circle-at .ensures,
+        ranges .range-at3 .ensures,
+        ranges .before .range-at2 .ensures,
+        ranges .before .before .range-at .ensures,
+        evaluated .evaluated-at3 .ensures,
+        evaluated .before .evaluated-at2 .ensures,
+        evaluated .before .before .evaluated-at .ensures,
+      )
+          (sym (lists-right-is (a .centre .now) (a .radius) (a .sense) (a .sides .now) (sym (start .before .lists-wrong .ensures) ∙ start .if1 .left))),
+      c .spherical-triangle .ensures .1,
     )
-    (sym (lists-right-is (a .centre .now) (a .radius) (a .sense) (a .sides .now) (sym (start .before .lists-wrong .ensures) ∙ start .if1 .left)))
 
 pub spherical-triangle-of-spec : {M : Type 1} → statement M
 spherical-triangle-of-spec =

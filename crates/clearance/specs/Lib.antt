@@ -1,0 +1,3 @@
+pub mod Clearance
+pub mod SegmentLists
+pub mod Nearest

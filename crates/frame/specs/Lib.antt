@@ -1,0 +1,5 @@
+pub mod Frame
+pub mod Framing
+pub mod Parts
+pub mod Stages
+pub mod Seam

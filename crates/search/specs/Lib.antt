@@ -1,0 +1,4 @@
+pub mod Search
+pub mod Chosen
+pub mod Leading
+pub mod Copies
