@@ -21,15 +21,15 @@ Lacks n cs = All (λ (c : Check). eqb c.number n ≡ false) cs
 abbrev pub NoneFails : List Check → Type 0
 NoneFails cs = All (λ (c : Check). c.fails ≡ false) cs
 
-no_number : (b : Bool) (m r : ℕ) → 0 < m → cond b m r ≡ 0 → (b ≡ false) × (r ≡ 0)
-no_number false m r h e = (refl, e)
-no_number true m r h e = absurd (omega arith)
+no-number : (b : Bool) (m r : ℕ) → 0 < m → cond b m r ≡ 0 → (b ≡ false) × (r ≡ 0)
+no-number false m r h e = (refl, e)
+no-number true m r h e = absurd (omega arith)
 
 pub none-fails : (cs : List Check) → Numbered cs → first cs ≡ 0 → NoneFails cs
 unfolding first
 none-fails [] n e = tt
 none-fails (c ∷ cs) n e =
-    let p = no_number c.fails c.number (first cs) n.0 e in
+    let p = no-number c.fails c.number (first cs) n.0 e in
     (p.0, none-fails cs n.1 p.1)
 
 pub first-none : (cs : List Check) → NoneFails cs → first cs ≡ 0
@@ -46,10 +46,10 @@ unfolding first
 first-later c cs e = rw e
 
 -- what holds of 0 and of every row's number holds of the first that fails
-pub first_holds : (P : ℕ → Type 0) → P 0 → (cs : List Check) → All (λ (c : Check). P c.number) cs → P (first cs)
+pub first-holds : (P : ℕ → Type 0) → P 0 → (cs : List Check) → All (λ (c : Check). P c.number) cs → P (first cs)
 unfolding first
-first_holds P none [] h = none
-first_holds P none (c ∷ cs) h = by c.fails (first_holds P none cs h.1)
+first-holds P none [] h = none
+first-holds P none (c ∷ cs) h = by c.fails (first-holds P none cs h.1)
   where
     by : (b : Bool) → P (first cs) → P (cond b c.number (first cs))
     by true k = h.0
@@ -71,9 +71,9 @@ abbrev pub amongst : ℕ → List ℕ → Bool
 amongst n [] = false
 amongst n (m ∷ ms) = eqb n m || amongst n ms
 
-one_of : (ns : List ℕ) (n : ℕ) → T (amongst n ns) → OneOf ns n
-one_of [] n t = absurd t
-one_of (m ∷ ms) n t = by (eqb n m) refl (one_of ms n) t
+one-of : (ns : List ℕ) (n : ℕ) → T (amongst n ns) → OneOf ns n
+one-of [] n t = absurd t
+one-of (m ∷ ms) n t = by (eqb n m) refl (one-of ms n) t
   where
     by : (b : Bool) → eqb n m ≡ b → (T (amongst n ms) → OneOf ms n) → T (b || amongst n ms) → OneOf (m ∷ ms) n
     by true e later t = inl (eqb-true n m e)
@@ -81,18 +81,18 @@ one_of (m ∷ ms) n t = by (eqb n m) refl (one_of ms n) t
 
 -- the first that fails is one of these, where 0 and every row's number are
 pub first-one-of : (ns : List ℕ) (cs : List Check) → T (amongst 0 ns) → All (λ (c : Check). T (amongst c.number ns)) cs → OneOf ns (first cs)
-first-one-of ns cs none h = one_of ns (first cs) (first_holds (λ (n : ℕ). T (amongst n ns)) none cs h)
+first-one-of ns cs none h = one-of ns (first cs) (first-holds (λ (n : ℕ). T (amongst n ns)) none cs h)
 
 -- ---- two tables, one behind the other
 
 -- the checks of xs come first
-after_none : (xs ys : List Check) → NoneFails xs → first (xs ++ ys) ≡ first ys
+after-none : (xs ys : List Check) → NoneFails xs → first (xs ++ ys) ≡ first ys
 unfolding first
-after_none [] ys h = refl
-after_none (c ∷ cs) ys h = rw h.0 (after_none cs ys h.1)
+after-none [] ys h = refl
+after-none (c ∷ cs) ys h = rw h.0 (after-none cs ys h.1)
 
 pub first-passed : (xs ys : List Check) → Numbered xs → first xs ≡ 0 → first (xs ++ ys) ≡ first ys
-first-passed xs ys n e = after_none xs ys (none-fails xs n e)
+first-passed xs ys n e = after-none xs ys (none-fails xs n e)
 
 pub first-refused : (xs ys : List Check) → (first xs ≡ 0 → ⊥) → first (xs ++ ys) ≡ first xs
 unfolding first
@@ -107,6 +107,6 @@ pub append-none : (xs ys : List Check) → Numbered xs → first (xs ++ ys) ≡ 
 unfolding first
 append-none [] ys n e = (refl, e)
 append-none (c ∷ cs) ys n e =
-    let p = no_number c.fails c.number (first (cs ++ ys)) n.0 e in
+    let p = no-number c.fails c.number (first (cs ++ ys)) n.0 e in
     let q = append-none cs ys n.1 p.1 in
     (rw p.0 q.0, q.1)

@@ -7,8 +7,8 @@ use mathlib.Core.List.{List, [], ◌∷◌, ◌++◌, map, flatten, append_assoc
 use Prim.Native.Nat.{suc}
 use native.Mathlib.Omega.{arith}
 use lib.ListN.{length}
-use Rattle.leaves.proofs.Folds.{All, all_append}
-use Rattle.answers.specs.Lists.{any_of}
+use Rattle.leaves.proofs.Folds.{All, all-append}
+use Rattle.answers.specs.Lists.{anyOf}
 
 pub map-perm : {A B : Type 0} (f : A → B) {xs ys : List A} → Permᴰ xs ys → Permᴰ (map f xs) (map f ys)
 map-perm f Permᴰ.nil = Permᴰ.nil
@@ -61,24 +61,24 @@ flatten-perm {A} (Permᴰ.swap {a = a} {b = b} {l = l} e₁ e₂) =
     Permᴰ.trans (front a b (flatten l)) (same (ap₂ (λ (x y : List A). x ++ (y ++ flatten l)) e₂ e₁))
 flatten-perm (Permᴰ.trans d₁ d₂) = Permᴰ.trans (flatten-perm d₁) (flatten-perm d₂)
 
-or_swap : (a b r : Bool) → (a || (b || r)) ≡ (b || (a || r))
-or_swap true true r = refl
-or_swap true false r = refl
-or_swap false b r = refl
+or-swap : (a b r : Bool) → (a || (b || r)) ≡ (b || (a || r))
+or-swap true true r = refl
+or-swap true false r = refl
+or-swap false b r = refl
 
-pub any-of-perm : {A : Type 0} (test : A → Bool) {xs ys : List A} → Permᴰ xs ys → any_of test xs ≡ any_of test ys
-unfolding any_of
+pub any-of-perm : {A : Type 0} (test : A → Bool) {xs ys : List A} → Permᴰ xs ys → anyOf test xs ≡ anyOf test ys
+unfolding anyOf
 any-of-perm test Permᴰ.nil = refl
 any-of-perm test (Permᴰ.cons e d) = ap₂ ◌||◌ (ap test e) (any-of-perm test d)
 any-of-perm test (Permᴰ.swap {a = a} {b = b} {l = l} e₁ e₂) =
-    or_swap (test a) (test b) (any_of test l) ∙ ap₂ (λ (x y : Bool). x || (y || any_of test l)) (ap test e₂) (ap test e₁)
+    or-swap (test a) (test b) (anyOf test l) ∙ ap₂ (λ (x y : Bool). x || (y || anyOf test l)) (ap test e₂) (ap test e₁)
 any-of-perm test (Permᴰ.trans d₁ d₂) = any-of-perm test d₁ ∙ any-of-perm test d₂
 
 -- ---- what holds of every element
 
-pub all_map : {A B : Type 0} (Q : B → Type 0) (f : A → B) (xs : List A) → All (λ (x : A). Q (f x)) xs → All Q (map f xs)
-all_map Q f [] h = tt
-all_map Q f (x ∷ xs) h = (h.0, all_map Q f xs h.1)
+pub all-map : {A B : Type 0} (Q : B → Type 0) (f : A → B) (xs : List A) → All (λ (x : A). Q (f x)) xs → All Q (map f xs)
+all-map Q f [] h = tt
+all-map Q f (x ∷ xs) h = (h.0, all-map Q f xs h.1)
 
 pub all-weaken : {A : Type 0} (P Q : A → Type 0) → ((a : A) → P a → Q a) → (xs : List A) → All P xs → All Q xs
 all-weaken P Q k [] h = tt
@@ -87,4 +87,4 @@ all-weaken P Q k (x ∷ xs) h = (k x h.0, all-weaken P Q k xs h.1)
 pub all-flatten : {A : Type 0} (Q : A → Type 0) (xs : List (List A)) → All (All Q) xs → All Q (flatten xs)
 unfolding flatten
 all-flatten Q [] h = tt
-all-flatten Q (x ∷ xs) h = all_append Q x (flatten xs) h.0 (all-flatten Q xs h.1)
+all-flatten Q (x ∷ xs) h = all-append Q x (flatten xs) h.0 (all-flatten Q xs h.1)

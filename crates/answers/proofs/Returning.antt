@@ -39,9 +39,9 @@ refused-five n = rw (paper-refused n) (refl, refl)
 
 -- ---- what a call returns
 
-pub other_length : (n : Numbers) (result : List Float) → (length result ≡ 5 → ⊥) → returned 1 result ≡ returnedOf n result
+pub other-length : (n : Numbers) (result : List Float) → (length result ≡ 5 → ⊥) → returned 1 result ≡ returnedOf n result
 unfolding returnedOf
-other_length n result h = rw (ne_eqb _ _ h)
+other-length n result h = rw (ne_eqb _ _ h)
 
 pub all-stored : (r : Answer) (result stored : List Float) (status : ℕ) → length result ≡ 5 → (status ≡ (paper r).status) × (stored ≡ five (paper r)) → returned status stored ≡ returnedOf (paper r) result
 unfolding returnedOf

@@ -52,8 +52,8 @@ settled-last n h false numbers = refl
 -- ---- a table, a row at a time
 
 -- the first row's check fails
-pub settled_here : (n : ℕ) → 0 < n → (b : Bool) (cs : List Check) (numbers : Numbers) → b ≡ true → settled (first (check n b ∷ cs)) numbers ≡ refused n
-settled_here n h b cs numbers e = ap (λ (r : ℕ). settled r numbers) (first-here (check n b) cs e) ∙ settled-refused n numbers (λ z. omega arith)
+pub settled-here : (n : ℕ) → 0 < n → (b : Bool) (cs : List Check) (numbers : Numbers) → b ≡ true → settled (first (check n b ∷ cs)) numbers ≡ refused n
+settled-here n h b cs numbers e = ap (λ (r : ℕ). settled r numbers) (first-here (check n b) cs e) ∙ settled-refused n numbers (λ z. omega arith)
 
 -- it does not
 pub settled-later : (n : ℕ) (b : Bool) (cs : List Check) (numbers : Numbers) → b ≡ false → settled (first (check n b ∷ cs)) numbers ≡ settled (first cs) numbers

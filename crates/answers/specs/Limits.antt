@@ -5,7 +5,7 @@ use Rattle.std.specs.Prelude.{Bool, not, ◌&&◌, ◌||◌, List, ℕ, eqb, len
 use Rattle.std.specs.Float.{binary64}
 use Rattle.std.specs.Float.Ieee.{of_bits, neg, le}
 use Rattle.leaves.specs.Constants.{greatestFinite}
-use Rattle.answers.specs.Lists.{any_of}
+use Rattle.answers.specs.Lists.{anyOf}
 
 -- of magnitude above the limit, infinite, or a NaN
 unfoldable pub beyond : Float → Float → Bool
@@ -22,4 +22,4 @@ argumentLimit = of_bits binary64 0x4130000000000000
 
 -- whether xs is not n numbers, none of them beyond the limit
 unfoldable pub missing : ℕ → Float → List Float → Bool
-missing n limit xs = not (eqb (length xs) n) || any_of (beyond limit) xs
+missing n limit xs = not (eqb (length xs) n) || anyOf (beyond limit) xs

@@ -21,7 +21,7 @@ use Rattle.picker.proofs.Refusals.{image-pick-refused, image-pick-status-one, pl
 use Rattle.picker.specs.Demand.{imageStatuses, planeStatuses}
 use Rattle.round_fallback.specs.Cylinder.{cylinderPointOf}
 use Rattle.steps.specs.Direction.{directionOf}
-use Rattle.steps.specs.Placed.{placed_of}
+use Rattle.steps.specs.Placed.{placedOf}
 use Rattle.steps.specs.Sample.{sampleParameterOf}
 use Rattle.vertex_fallback.specs.Vertices.{pointOnOf}
 use Rattle.steps.proofs.Refusals.{sample-parameter-refused, sample-parameter-status, direction-refused, direction-status, placed-refused, placed-status}
@@ -32,7 +32,7 @@ use Rattle.triangle.proofs.ListRefusals.{triangle-lists-refused, triangle-lists-
 use Rattle.capi.specs.Convention.{seen, seenOf, chartSeen}
 use Rattle.capi.specs.Demand.{Demand1}
 use Rattle.answers.specs.Returned.{returned, zeros}
-use Rattle.answers.proofs.Returning.{other_length, status-is, zeros-beside}
+use Rattle.answers.proofs.Returning.{other-length, status-is, zeros-beside}
 use Rattle.capi.proofs.Five.{chart-other-length}
 
 -- ---- the chart
@@ -68,7 +68,7 @@ module _ (sheet : List ℕ) (phase : ℕ) (points result : List Float) where
 demand-1 : (n : Numbers) (table : List ℕ) → ((n.status ≡ 0 → ⊥) → n ≡ refused n.status) → OneOf table n.status → Demand1 n table
 demand-1 n table r l =
     record {
-      unwritten = λ result h. sym (other_length n result h);
+      unwritten = λ result h. sym (other-length n result h);
       zeroed = λ result h k. zeros-beside n result h (r (λ e. k (status-is n result h ∙ e)));
       numbered = λ result h. subst (OneOf table) (sym (status-is n result h)) l;
     }
@@ -94,5 +94,5 @@ point-on-demand-1 uAxis normal corners = demand-1 (pointOnOf uAxis normal corner
 pub cylinder-point-demand-1 : (heights angles : List Float) → Demand1 (cylinderPointOf heights angles) (0 ∷ 16 ∷ 22 ∷ 23 ∷ [])
 cylinder-point-demand-1 heights angles = demand-1 (cylinderPointOf heights angles) (0 ∷ 16 ∷ 22 ∷ 23 ∷ []) (cylinder-refused heights angles) (cylinder-status heights angles)
 
-pub placed-demand-1 : (transform point : List Float) → Demand1 (placed_of transform point) (0 ∷ 16 ∷ 24 ∷ [])
-placed-demand-1 transform point = demand-1 (placed_of transform point) (0 ∷ 16 ∷ 24 ∷ []) (placed-refused transform point) (placed-status transform point)
+pub placed-demand-1 : (transform point : List Float) → Demand1 (placedOf transform point) (0 ∷ 16 ∷ 24 ∷ [])
+placed-demand-1 transform point = demand-1 (placedOf transform point) (0 ∷ 16 ∷ 24 ∷ []) (placed-refused transform point) (placed-status transform point)

@@ -8,7 +8,7 @@ ghost use Rattle.leaves.specs.Root.{rootOf};
 ghost use Rattle.leaves.specs.Round.{roundOf};
 ghost use Rattle.round_fallback.specs.Cylinder.{cylinderPointOf};
 ghost use Rattle.steps.specs.Direction.{directionOf};
-ghost use Rattle.steps.specs.Placed.{placed_of};
+ghost use Rattle.steps.specs.Placed.{placedOf};
 ghost use Rattle.steps.specs.Sample.{sampleParameterOf};
 ghost use Rattle.vertex_fallback.specs.Vertices.{pointOnOf};
 ghost use Rattle.triangle.specs.Lists.{triangleListsOf};
@@ -116,7 +116,7 @@ pub extern "C" fn facepoint_cylinder_point(heights: &[f64], angles: &[f64], res:
 // A point by a transform of twelve numbers, row by row: x, y, z.
 #[unsafe(no_mangle)]
 pub extern "C" fn facepoint_placed(transform: &[f64], point: &[f64], res: &mut [f64]) -> u32
-    ensures { returned result res.new ≡ returnedOf (placed_of transform.now point.now) res.old }
+    ensures { returned result res.new ≡ returnedOf (placedOf transform.now point.now) res.old }
 {
     put(of_position(steps::placed(transform, point)), res)
 }

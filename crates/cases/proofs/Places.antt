@@ -8,16 +8,16 @@ use Rattle.cases.specs.Places.{loaded, shown, wrongFrom, weighted}
 
 -- ---- filled
 
-fill_suc : {A : Type 0} (n : ℕ) (v : A) (d : List A) → n < length d → set (replicate n v ++ drop n d) n v ≡ replicate (suc n) v ++ drop (suc n) d
-fill_suc n v [] l = absurd (not-suc-le-zero l)
-fill_suc zero v (x ∷ d) l = refl
-fill_suc (suc n) v (x ∷ d) l = ap (λ t. v ∷ t) (fill_suc n v d (le_of_suc-le-suc l))
+fill-suc : {A : Type 0} (n : ℕ) (v : A) (d : List A) → n < length d → set (replicate n v ++ drop n d) n v ≡ replicate (suc n) v ++ drop (suc n) d
+fill-suc n v [] l = absurd (not-suc-le-zero l)
+fill-suc zero v (x ∷ d) l = refl
+fill-suc (suc n) v (x ∷ d) l = ap (λ t. v ∷ t) (fill-suc n v d (le_of_suc-le-suc l))
 
-pub fill_more : {A : Type 0} (n : ℕ) (v : A) (d : List A) → n < length d → set (replicate n v ++ drop n d) n v ≡ replicate (n + 1) v ++ drop (n + 1) d
-fill_more n v d l = rw add-one (fill_suc n v d l)
+pub fill-more : {A : Type 0} (n : ℕ) (v : A) (d : List A) → n < length d → set (replicate n v ++ drop n d) n v ≡ replicate (n + 1) v ++ drop (n + 1) d
+fill-more n v d l = rw add-one (fill-suc n v d l)
 
-pub fill_end : {A : Type 0} (n : ℕ) (v : A) (d : List A) → n ≡ length d → replicate n v ++ drop n d ≡ replicate (length d) v
-fill_end n v d e = rw (e, drop-length, append-nil)
+pub fill-end : {A : Type 0} (n : ℕ) (v : A) (d : List A) → n ≡ length d → replicate n v ++ drop n d ≡ replicate (length d) v
+fill-end n v d e = rw (e, drop-length, append-nil)
 
 -- ---- loaded
 
@@ -87,9 +87,9 @@ module _ (m : ℕ) (list : List Float) (d : Float) where
   total-front : (k : ℕ) → k < length list → ((weighted 1 (drop (suc k) list) % m + bitSum (drop (suc k) list) % m) % m + bitSum (drop k list) % m) % m ≡ weighted 1 (drop k list) % m
   total-front k h = rw (← add-mod (weighted 1 (drop (suc k) list)), ← add-mod, drop-cons list k d h, weighted-cons)
 
-  pub sum_more : (k p b r : ℕ) → 0 < k → k ≤ length list → p ≡ bitSum (drop k list) % m → b ≡ to_bits binary64 (get_or list (k - 1) d) → r ≡ (p + b) % m → r ≡ bitSum (drop (k - 1) list) % m
-  sum_more zero p b r h l e f g = absurd (not-suc-le-zero h)
-  sum_more (suc k) p b r h l e f g = let z : suc k - 1 ≡ k = omega arith in rw z (g ∙ rw (e, f, z) (sum-front k l))
+  pub sum-more : (k p b r : ℕ) → 0 < k → k ≤ length list → p ≡ bitSum (drop k list) % m → b ≡ to_bits binary64 (get_or list (k - 1) d) → r ≡ (p + b) % m → r ≡ bitSum (drop (k - 1) list) % m
+  sum-more zero p b r h l e f g = absurd (not-suc-le-zero h)
+  sum-more (suc k) p b r h l e f g = let z : suc k - 1 ≡ k = omega arith in rw z (g ∙ rw (e, f, z) (sum-front k l))
 
   pub total-more : (k t p q r u : ℕ) → 0 < k → k ≤ length list → t ≡ weighted 1 (drop k list) % m → p ≡ bitSum (drop k list) % m → q ≡ (t + p) % m → r ≡ bitSum (drop (k - 1) list) % m → u ≡ (q + r) % m → u ≡ weighted 1 (drop (k - 1) list) % m
   total-more zero t p q r u h l e f i g j = absurd (not-suc-le-zero h)

@@ -21,7 +21,7 @@ pub enum Head {
 
 // The head in these bytes, which are what a file still had of it.
 pub fn head_of(s: &[u8]) -> Head
-    ensures { result ≡ head_of s.now }
+    ensures { result ≡ headOf s.now }
 {
     if s.len() == 0 {
         return Head::Ended;

@@ -44,9 +44,9 @@ pub phase-numbered : (s : List ℕ) (phase : ℕ) → Numbered (phaseChecks s ph
 phase-numbered s phase = unfold phaseChecks layoutChecks contentChecks in omega arith
 
 -- what passes them
-pub reads_of : (s : List ℕ) (phase : ℕ) → first (phaseChecks s phase) ≡ 0 → first (layoutChecks s ++ contentChecks (sheetOf s)) ≡ 0
+pub reads-of : (s : List ℕ) (phase : ℕ) → first (phaseChecks s phase) ≡ 0 → first (layoutChecks s ++ contentChecks (sheetOf s)) ≡ 0
 unfolding phaseChecks
-reads_of s phase e = (append-none (layoutChecks s ++ contentChecks (sheetOf s)) (check 8 (phaseWrong (sheetOf s) phase) ∷ []) (sheet-numbered s) e).0
+reads-of s phase e = (append-none (layoutChecks s ++ contentChecks (sheetOf s)) (check 8 (phaseWrong (sheetOf s) phase) ∷ []) (sheet-numbered s) e).0
 
 pub phase-of : (s : List ℕ) (phase : ℕ) → first (phaseChecks s phase) ≡ 0 → phaseWrong (sheetOf s) phase ≡ false
 unfolding phaseChecks
@@ -89,9 +89,9 @@ module _ (s : List ℕ) (phase : ℕ) (out : List Float) where
     unfolding roomWrong
     call-no-room h = refused-by 9 (past-phase ∙ first-here (check 9 (roomWrong (sheetOf s) (length out))) (frameChecks (sheetOf s) phase) (lt-ltb _ _ h)) (λ z. omega (arith, z))
 
-    pub call_passes : 2 * pointCount (sheetOf s) ≤ length out → Passed s phase out
+    pub call-passes : 2 * pointCount (sheetOf s) ≤ length out → Passed s phase out
     unfolding roomWrong
-    call_passes h = record { passes = passes; roomRight = le-ltb _ _ h }
+    call-passes h = record { passes = passes; roomRight = le-ltb _ _ h }
 
 -- ---- a sheet that reads
 
@@ -113,9 +113,9 @@ module _ {s : List ℕ} {phase : ℕ} {out : List Float} (p : Passed s phase out
     none = left ∙ passes
 
     -- the points that are written
-    written_is : {xs : List Float} → xs ≡ flat (flatten (movedRings (sheetOf s) phase)) → over (flat (map (writtenPoint phase) (pairs xs))) out ≡ writtenOver s phase out (sheetOf s)
+    written-is : {xs : List Float} → xs ≡ flat (flatten (movedRings (sheetOf s) phase)) → over (flat (map (writtenPoint phase) (pairs xs))) out ≡ writtenOver s phase out (sheetOf s)
     unfolding written roomWrong
-    written_is {xs} x =
+    written-is {xs} x =
         let rings = movedRings (sheetOf s) phase in
         let w = flat (map (writtenPoint phase) (flatten rings)) in
         let points : flat (map (writtenPoint phase) (pairs xs)) ≡ w = ap (λ (ps : List Point). flat (map (writtenPoint phase) ps)) (ap pairs x ∙ pairs-flat (flatten rings)) in
@@ -127,4 +127,4 @@ module _ {s : List ℕ} {phase : ℕ} {out : List Float} (p : Passed s phase out
     call-answered r x a e d q =
         ap₂ charted
         (q ∙ ap₂ (λ (f : Frame) (c : Candidate). answered f phase c) e d ∙ sym (chart-numbers s phase out ∙ settled-none (first (chartChecks s phase (length out))) (answered (frame (sheetOf s) phase) phase (chosen (sheetOf s) phase)) none))
-        (a ∙ written_is x ∙ sym (chart-points s phase out ∙ ap (λ (b : Bool). cond b (writtenOver s phase out (sheetOf s)) out) (eq-eqb _ 0 none)))
+        (a ∙ written-is x ∙ sym (chart-points s phase out ∙ ap (λ (b : Bool). cond b (writtenOver s phase out (sheetOf s)) out) (eq-eqb _ 0 none)))

@@ -17,7 +17,7 @@ use Rattle.coverage.specs.Coverage.{covered}
 use Rattle.clearance.specs.Clearance.{nearer, leastOf, laid}
 use Rattle.points.specs.Grid.{gridPoint, gridOf}
 use Rattle.points.specs.Segments.{segments}
-use Rattle.points.proofs.Flat.{flat_append}
+use Rattle.points.proofs.Flat.{flat-append}
 use Rattle.points.proofs.GridOrder.{grid-length, grid-place}
 use Rattle.clearance.proofs.ByKeys.{copyKey, nearer-by-key}
 use Rattle.search.specs.Chosen.{coveredAt, clearanceAt, chosenAmong}
@@ -43,11 +43,11 @@ module _ (periodic : Bool) (period : Float) where
   abbrev ofRing : List Point → List Float
   ofRing ring = flat (endsOf (map (laid periodic period) (segments ring)))
 
-  numbers_more : (ring : List Point) (rings : List (List Point)) → numbersOf (ring ∷ rings) ≡ ofRing ring ++ numbersOf rings
+  numbers-more : (ring : List Point) (rings : List (List Point)) → numbersOf (ring ∷ rings) ≡ ofRing ring ++ numbersOf rings
   unfolding laidRings flat_map
-  numbers_more ring rings =
+  numbers-more ring rings =
       ap flat (ends-append (map (laid periodic period) (segments ring)) (laidRings periodic period rings))
-      ∙ flat_append (endsOf (map (laid periodic period) (segments ring))) (endsOf (laidRings periodic period rings))
+      ∙ flat-append (endsOf (map (laid periodic period) (segments ring))) (endsOf (laidRings periodic period rings))
 
   numbers-none : numbersOf [] ≡ []
   unfolding laidRings flat_map endsOf flat
@@ -70,10 +70,10 @@ module _ (periodic : Bool) (period : Float) where
     abbrev pub Laid : Type 0
     Laid = take at list ++ numbersOf (ringsFrom from (drop k ends) points) ≡ whole
 
-    pub ring_laid : (to : ℕ) → k < length ends → to ≡ get_or ends k 0 → from ≤ to → to ≤ length points → at + 4 * ((to - from) / 2) ≤ length list
+    pub ring-laid : (to : ℕ) → k < length ends → to ≡ get_or ends k 0 → from ≤ to → to ≤ length points → at + 4 * ((to - from) / 2) ≤ length list
         → ys ≡ over (ofRing (pairs (between from to points))) (take (at + 4 * ((to - from) / 2) - at) (drop at list)) → Laid
         → take (at + 4 * ((to - from) / 2)) (take at list ++ (ys ++ drop (at + 4 * ((to - from) / 2) - at) (drop at list))) ++ numbersOf (ringsFrom to (drop (k + 1) ends) points) ≡ whole
-    ring_laid to more is order past room e w =
+    ring-laid to more is order past room e w =
         let n = 4 * ((to - from) / 2) in
         let ring = between from to points in
         let xs = ofRing (pairs ring) in
@@ -83,10 +83,10 @@ module _ (periodic : Bool) (period : Float) where
         let fits : length xs ≡ length (take (at + n - at) (drop at list)) = size ∙ sym (simp (length-take, length-drop) (omega arith)) in
         let left : ringsFrom from (drop k ends) points ≡ pairs ring ∷ ringsFrom to (drop (k + 1) ends) points = rings-step ends k more from points ∙ ap (λ (t : ℕ). pairs (between from t points) ∷ ringsFrom t (drop (k + 1) ends) points) (sym is) in
         part-laid list ys at n xs rest whole room size (e ∙ over-all xs (take (at + n - at) (drop at list)) (sym fits))
-        (ap (λ (ns : List Float). take at list ++ ns) (sym (ap numbersOf left ∙ numbers_more (pairs ring) (ringsFrom to (drop (k + 1) ends) points))) ∙ w)
+        (ap (λ (ns : List Float). take at list ++ ns) (sym (ap numbersOf left ∙ numbers-more (pairs ring) (ringsFrom to (drop (k + 1) ends) points))) ∙ w)
 
-    pub all_laid : length ends ≤ k → Laid → take at list ≡ whole
-    all_laid h w = sym (append-nil (take at list)) ∙ ap (λ (xs : List Float). take at list ++ xs) (sym (ap numbersOf (rings-end ends k h from points) ∙ numbers-none)) ∙ w
+    pub all-laid : length ends ≤ k → Laid → take at list ≡ whole
+    all-laid h w = sym (append-nil (take at list)) ∙ ap (λ (xs : List Float). take at list ++ xs) (sym (ap numbersOf (rings-end ends k h from points) ∙ numbers-none)) ∙ w
 
 -- ---- the marks
 
@@ -118,9 +118,9 @@ module _ (f : Frame) (sense : ℕ) (rings : List (List Point)) where
   unfolding coveredAt
   cover-is i j h k l m = grid-place (λ (i j : ℕ). covered f sense rings (gridPoint i j)) false i j h k l m
 
-  pub chosen_is : chosenAmong f.periodic f.period (laidRings f.periodic f.period rings) (marks f sense rings) ≡ candidate f sense rings
+  pub chosen-is : chosenAmong f.periodic f.period (laidRings f.periodic f.period rings) (marks f sense rings) ≡ candidate f sense rings
   unfolding chosenAmong candidate
-  chosen_is =
+  chosen-is =
       ap (search (coveredAt (marks f sense rings))) (fun_ext (λ i. fun_ext (λ j. clear-is i j)))
       ∙ search-same (coveredAt (marks f sense rings)) (λ (i j : ℕ). covered f sense rings (gridPoint i j)) (λ (i j : ℕ). clearance f rings (gridPoint i j)) cover-is
 
@@ -129,4 +129,4 @@ module _ (f : Frame) (sense : ℕ) (rings : List (List Point)) where
       → chosenAmong f.periodic f.period (segmentsIn (take m (take n list))) new ≡ candidate f sense rings
   chosen-from list n m new h Laid-in marks-are =
       let short : take m (take n list) ≡ take n list = take_all m (take n list) (omega (arith, length-take n list)) in
-      ap₂ (chosenAmong f.periodic f.period) (ap segmentsIn (short ∙ Laid-in) ∙ segments-flat (laidRings f.periodic f.period rings)) marks-are ∙ chosen_is
+      ap₂ (chosenAmong f.periodic f.period) (ap segmentsIn (short ∙ Laid-in) ∙ segments-flat (laidRings f.periodic f.period rings)) marks-are ∙ chosen-is

@@ -14,8 +14,8 @@ use lib.Dec.{T, not_T, T_not}
 use lib.Ieee.{Float, binary64, of_bits, fits, is_nan, lt, le}
 use Rattle.leaves.specs.Constants.{plusZero, clearanceLimit}
 use Rattle.leaves.proofs.ConstantBits.{clearanceLimit-fits, clearanceLimit-positive}
-use Rattle.leaves.proofs.Order.{le-self, le→not-lt, le_lt_trans, lt-le-trans, lt→le, lt_irrefl, not-lt→le}
-use Rattle.points.specs.Grid.{up_from, lines, part, gridOf}
+use Rattle.leaves.proofs.Order.{le-self, le→not-lt, le-lt-trans, lt-le-trans, lt→le, lt-irrefl, not-lt→le}
+use Rattle.points.specs.Grid.{upFrom, lines, part, gridOf}
 use Rattle.search.specs.Search.{start, better, counted, visit, column, search}
 use Rattle.chart.specs.Demand.{OnGrid, After, trues, coveredCount, NoneServes, Clearest, candidateAt}
 use Rattle.search.specs.declared.candidate.Candidate.{Candidate}
@@ -24,12 +24,12 @@ use Rattle.search.proofs.Visits.{visit-is}
 -- ---- a walk over n numbers from i on
 
 module _ {S : Type 0} (step : S → ℕ → S) (P : ℕ → S → Type 0) where
-  walk : (n i : ℕ) (s : S) → ((k : ℕ) (z : S) → i ≤ k → k < i + n → P k z → P (k + 1) (step z k)) → P i s → P (i + n) (foldl step s (up_from i n))
-  unfolding up_from
+  walk : (n i : ℕ) (s : S) → ((k : ℕ) (z : S) → i ≤ k → k < i + n → P k z → P (k + 1) (step z k)) → P i s → P (i + n) (foldl step s (upFrom i n))
+  unfolding upFrom
   walk zero i s keeps p = let e : i ≡ i + 0 = omega arith in subst (λ (k : ℕ). P k s) e p
   walk (suc n) i s keeps p =
       let e : i + 1 + n ≡ i + suc n = omega arith in
-      subst (λ (k : ℕ). P k (foldl step (step s i) (up_from (i + 1) n))) e
+      subst (λ (k : ℕ). P k (foldl step (step s i) (upFrom (i + 1) n))) e
       (walk n (i + 1) (step s i) (λ k z h l q. keeps k z (omega arith) (omega arith) q) (keeps i s (omega arith) (omega arith) p))
 
 -- ---- places
@@ -48,9 +48,9 @@ turn i k l on (inr h) = absurd (none on.j-from h.1)
     none p q = omega arith
 
 -- nothing on the grid comes before its first place, and all of it before the end
-none_before : (k l : ℕ) → OnGrid k l → After 1 1 k l → ⊥
-none_before k l on (inl h) = let b = on.i-from in omega arith
-none_before k l on (inr h) = let b = on.j-from in let c = h.1 in omega arith
+none-before : (k l : ℕ) → OnGrid k l → After 1 1 k l → ⊥
+none-before k l on (inl h) = let b = on.i-from in omega arith
+none-before k l on (inr h) = let b = on.j-from in let c = h.1 in omega arith
 
 all-before : (k l : ℕ) → OnGrid k l → After (1 + 31) 1 k l
 all-before k l on = inl (omega (arith, on.i-to))
@@ -71,16 +71,16 @@ ordered i j k l = by (dec_lt k i) (dec_lt i k) (dec_lt l j) (dec_lt j l)
 true-T : {b : Bool} → b ≡ true → T b
 true-T e = subst T (sym e) tt
 
-T_false : (b : Bool) → T (not b) → b ≡ false
-T_false true t = absurd t
-T_false false t = refl
+T-false : (b : Bool) → T (not b) → b ≡ false
+T-false true t = absurd t
+T-false false t = refl
 
 false-T : {b : Bool} → b ≡ false → T (not b)
 false-T e = subst (λ (x : Bool). T (not x)) (sym e) tt
 
-zero_held : T (fits binary64 plusZero)
+zero-held : T (fits binary64 plusZero)
 unfolding fits of_bits
-zero_held = tt
+zero-held = tt
 
 -- ---- the count
 
@@ -136,7 +136,7 @@ module _ (cover : ℕ → ℕ → Bool) (clear : ℕ → ℕ → Float) where
 
   begin : Reached 1 1 start
   unfolding is_nan of_bits
-  begin = record { held = zero_held; number = tt; most = λ k l on t h. absurd (none_before k l on h); from = inl refl }
+  begin = record { held = zero-held; number = tt; most = λ k l on t h. absurd (none-before k l on h); from = inl refl }
 
   column-end : (i : ℕ) (c : Candidate) → Reached i (1 + 31) c → Reached (i + 1) 1 c
   column-end i c r = record { held = r.held; number = r.number; most = λ k l on t h. r.most k l on t (turn i k l on h); from = r.from }
@@ -164,7 +164,7 @@ module _ (cover : ℕ → ℕ → Bool) (clear : ℕ → ℕ → Float) where
     unfolding counted
     pass i j c true true on e f r =
         let less : (k l : ℕ) → OnGrid k l → T (cover k l) → After i j k l → T (lt (clear k l) (clear i j)) =
-        λ k l at t h. le_lt_trans binary64 (clear k l) c.clearance (clear i j) (held k l) r.held (held i j) (r.most k l at t h) (true-T f) in
+        λ k l at t h. le-lt-trans binary64 (clear k l) c.clearance (clear i j) (held k l) r.held (held i j) (r.most k l at t h) (true-T f) in
         record {
           held = held i j;
           number = number i j;
@@ -193,7 +193,7 @@ module _ (cover : ℕ → ℕ → Bool) (clear : ℕ → ℕ → Float) where
     column-reaches : (i : ℕ) (c : Candidate) → 1 ≤ i → i ≤ 31 → Reached i 1 c → Reached (i + 1) 1 (column cover clear c i)
     unfolding column lines
     column-reaches i c h g r =
-        column-end i (foldl (visit cover clear i) c (up_from 1 31))
+        column-end i (foldl (visit cover clear i) c (upFrom 1 31))
         (walk (visit cover clear i) (Reached i) 31 1 c (λ j z a b q. visit-reaches i j z (record { i-from = h; i-to = g; j-from = a; j-to = omega arith }) q) r)
 
     search-reaches : Reached (1 + 31) 1 (search cover clear)
@@ -226,7 +226,7 @@ module _ (cover : ℕ → ℕ → Bool) (clear : ℕ → ℕ → Float) where
       where
         forth : NoneServes cover clear → lt clearanceLimit (search cover clear).clearance ≡ false
         forth none =
-            T_false (lt clearanceLimit (search cover clear).clearance)
+            T-false (lt clearanceLimit (search cover clear).clearance)
             (not_T (lt clearanceLimit (search cover clear).clearance) (λ t. let (i, j, w, f) = found-is (search cover clear) search-reaches t in none i j w.serves))
 
         back : lt clearanceLimit (search cover clear).clearance ≡ false → NoneServes cover clear
@@ -249,7 +249,7 @@ module _ (cover : ℕ → ℕ → Bool) (clear : ℕ → ℕ → Float) (i j k l
   ties-after on t e = by (ordered i j k l)
     where
       by : After i j k l ⊎ (((k ≡ i) × (l ≡ j)) ⊎ After k l i j) → ((k ≡ i) × (l ≡ j)) ⊎ After k l i j
-      by (inl h) = absurd (lt_irrefl (clear i j) (subst (λ (x : Float). T (lt x (clear i j))) e (c.first k l on t h)))
+      by (inl h) = absurd (lt-irrefl (clear i j) (subst (λ (x : Float). T (lt x (clear i j))) e (c.first k l on t h)))
       by (inr h) = h
 
   -- there is one such point

@@ -94,7 +94,7 @@ module _ (fits : Bool) (s : Sheet) (phase : ℕ) where
       (r.0 ∙ checks-left e, λ z. r.1 (sym r.0 ∙ z))
 
   -- the chosen grid point, where none fails
-  pub told_chosen : (f : Frame) (c : Candidate) → fits ≡ true → foundOf fits s phase ≡ Chosen f c → (first (frameChecks s phase) ≡ 0) × (f ≡ frame s phase) × (c ≡ chosen s phase)
-  told_chosen f c e t =
+  pub told-chosen : (f : Frame) (c : Candidate) → fits ≡ true → foundOf fits s phase ≡ Chosen f c → (first (frameChecks s phase) ≡ 0) × (f ≡ frame s phase) × (c ≡ chosen s phase)
+  told-chosen f c e t =
       let r = chosen-told (first (findChecks fits s phase)) f c (sym found-is ∙ t) in
       (sym (checks-left e) ∙ r.0, r.1, r.2)

@@ -26,7 +26,7 @@ use Rattle.chart.specs.Demand.{Clearest, NoneServes, Passes, Rule, candidateAt, 
 use Rattle.search.specs.declared.candidate.Candidate.{Candidate}
 use Rattle.chart.proofs.Clearances.{clearance-held, clearance-number}
 use Rattle.chart.proofs.Clearest.{clearest-chosen, none-serves}
-use Rattle.chart.proofs.Outcomes.{Parted, chart-numbers, chart-status, down-numbered, first_above, first_passes}
+use Rattle.chart.proofs.Outcomes.{Parted, chart-numbers, chart-status, down-numbered, first-above, first-passes}
 use Rattle.answers.proofs.Settled.{settled-status}
 
 -- ---- the search over a sheet's content, whatever the call
@@ -72,14 +72,14 @@ pub record Call (s : Sheet) (phase : ℕ) (cs : List Check) (below : Candidate �
   pub answers : (c : Candidate) → (answer c).status ≡ 0
 
 module _ (s : Sheet) (phase : ℕ) (cs : List Check) (below : Candidate → List Check) (answer : Candidate → Numbers) (call : Call s phase cs below answer) (passes : Passes 13 cs) where
-  refusal_is : first cs ≡ cond (noneClear (chosen s phase)) 14 (first (below (chosen s phase)))
+  refusal-is : first cs ≡ cond (noneClear (chosen s phase)) 14 (first (below (chosen s phase)))
   unfolding first
-  refusal_is = ap first call.parts ∙ first-passed (downTo 13 cs) (check 14 (noneClear (chosen s phase)) ∷ below (chosen s phase)) (down-numbered 13 cs call.numbered) passes
+  refusal-is = ap first call.parts ∙ first-passed (downTo 13 cs) (check 14 (noneClear (chosen s phase)) ∷ below (chosen s phase)) (down-numbered 13 cs call.numbered) passes
 
   call-is : (b : Bool) → lt clearanceLimit (chosen s phase).clearance ≡ b
       → settled (first cs) (answer (chosen s phase)) ≡ cond b (settled (first (below (chosen s phase))) (answer (chosen s phase))) (refused 14)
   call-is b e =
-      ap (λ (r : ℕ). settled r (answer (chosen s phase))) refusal_is
+      ap (λ (r : ℕ). settled r (answer (chosen s phase))) refusal-is
       ∙ row-settles (chosen s phase) (first (below (chosen s phase))) (answer (chosen s phase))
       ∙ ap (λ (b : Bool). cond b (settled (first (below (chosen s phase))) (answer (chosen s phase))) (refused 14)) e
 
@@ -137,10 +137,10 @@ module _ (s : List ℕ) (phase : ℕ) (out : List Float) where
 
   -- where one of the rows down to 13 fails, the first that does is the status
   pub refused-above : (Passes 13 (chartChecks s phase (length out)) → ⊥) → (chartOf s phase out).numbers.status ≡ first (downTo 13 (chartChecks s phase (length out)))
-  refused-above n = chart-status s phase out ∙ first_above 13 (chartChecks s phase (length out)) (check 14 (noneClear (chosen (sheetOf s) phase)) ∷ []) (chart-parted s phase (length out)) n
+  refused-above n = chart-status s phase out ∙ first-above 13 (chartChecks s phase (length out)) (check 14 (noneClear (chosen (sheetOf s) phase)) ∷ []) (chart-parted s phase (length out)) n
 
   -- the checks down to 13 pass where the status is 0 or 14, and by the rule only there
   pub passes-joins : ((chartOf s phase out).numbers.status ≡ 0) ⊎ ((chartOf s phase out).numbers.status ≡ 14) → Passes 13 (chartChecks s phase (length out))
   passes-joins h =
-      let passes = first_passes 13 (chartChecks s phase (length out)) (check 14 (noneClear (chosen (sheetOf s) phase)) ∷ []) (chart-parted s phase (length out)) in
+      let passes = first-passes 13 (chartChecks s phase (length out)) (check 14 (noneClear (chosen (sheetOf s) phase)) ∷ []) (chart-parted s phase (length out)) in
       ⊎_elim (λ e. passes 0 (λ l. absurd (omega (arith, l))) (sym (chart-status s phase out) ∙ e)) (λ e. passes 14 (λ l. chart-down-lacks s phase (length out)) (sym (chart-status s phase out) ∙ e)) h

@@ -69,17 +69,17 @@ positive (suc n) h = omega arith
 
 module _ (n : ℕ) (cs later : List Check) (parts : Parted n cs later) where
   -- where one of the rows down to n fails, the first that does is the table's
-  pub first_above : (Passes n cs → ⊥) → first cs ≡ first (downTo n cs)
-  first_above h = ap first parts ∙ first-refused (downTo n cs) later h
+  pub first-above : (Passes n cs → ⊥) → first cs ≡ first (downTo n cs)
+  first-above h = ap first parts ∙ first-refused (downTo n cs) later h
 
   -- they pass where the table's first is 0, or a number that none of them has
-  pub first_passes : (m : ℕ) → (0 < m → Lacks m (downTo n cs)) → first cs ≡ m → Passes n cs
-  first_passes m lacks e = by (ℕ_discrete (first (downTo n cs)) 0)
+  pub first-passes : (m : ℕ) → (0 < m → Lacks m (downTo n cs)) → first cs ≡ m → Passes n cs
+  first-passes m lacks e = by (ℕ_discrete (first (downTo n cs)) 0)
     where
       by : Dec (first (downTo n cs) ≡ 0) → Passes n cs
       by (yes z) = z
       by (no k) =
-          let same = sym (first_above k) ∙ e in
+          let same = sym (first-above k) ∙ e in
           let some : 0 < m = positive m (λ z. k (same ∙ z)) in
           absurd (lacks-first m (downTo n cs) some (lacks some) same)
 

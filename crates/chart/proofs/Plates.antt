@@ -45,9 +45,9 @@ unfolding first downTo chartChecks big sheetBytes plateA of_bits smallerOf large
 passes = refl
 
 -- the table turns on the room by row 9 alone
-same_rows : (s : List ℕ) (phase room more : ℕ) → roomWrong (sheetOf s) more ≡ roomWrong (sheetOf s) room → chartChecks s phase more ≡ chartChecks s phase room
+same-rows : (s : List ℕ) (phase room more : ℕ) → roomWrong (sheetOf s) more ≡ roomWrong (sheetOf s) room → chartChecks s phase more ≡ chartChecks s phase room
 unfolding chartChecks
-same_rows s phase room more e = ap (λ (b : Bool). layoutChecks s ++ contentChecks (sheetOf s) ++ check 8 (phaseWrong (sheetOf s) phase) ∷ check 9 b ∷ frameChecks (sheetOf s) phase) e
+same-rows s phase room more e = ap (λ (b : Bool). layoutChecks s ++ contentChecks (sheetOf s) ++ check 8 (phaseWrong (sheetOf s) phase) ∷ check 9 b ∷ frameChecks (sheetOf s) phase) e
 
 module _ (last : Point) where
   abbrev bytesA : List ℕ
@@ -61,13 +61,13 @@ module _ (last : Point) where
   unfolding roomWrong
   room-right room h = rw points-A (le-ltb room 136 h)
 
-  more_room : (room : ℕ) → 136 ≤ room → first (downTo 13 (chartChecks bytesA 0 room)) ≡ first (downTo 13 (chartChecks bytesA 0 136))
-  more_room room h = ap (λ (cs : List Check). first (downTo 13 cs)) (same_rows bytesA 0 136 room (room-right room h ∙ sym (room-right 136 (omega arith))))
+  more-room : (room : ℕ) → 136 ≤ room → first (downTo 13 (chartChecks bytesA 0 room)) ≡ first (downTo 13 (chartChecks bytesA 0 136))
+  more-room room h = ap (λ (cs : List Check). first (downTo 13 cs)) (same-rows bytesA 0 136 room (room-right room h ∙ sym (room-right 136 (omega arith))))
 
 pub plates : Plates
 unfolding insideOf windingOf joinsOpen square halfway decimal of_bits sheetOf sheetBytes plateA smallerOf largerOf hypotOf roundOf wrapOf joinLimit
 plates = record {
-  round_up = round-two-and-a-half;
+  round-up = round-two-and-a-half;
   round-down = round-minus-two-and-a-half;
   root-of-two = root-two;
   root-of-least = root-least;
@@ -79,10 +79,10 @@ plates = record {
   plate-A-13-read = refl;
   plate-A-14-read = refl;
   plate-A-open = λ out h.
-      let rows = more_room (raised 13) (length out) h ∙ thirteen in
+      let rows = more-room (raised 13) (length out) h ∙ thirteen in
       refused-above (sheetBytes (plateA (raised 13))) 0 out (λ z. never (sym rows ∙ z)) ∙ rows;
   plate-A-joins = refl;
-  plate-A-passes = λ out h. more_room (raised 14) (length out) h ∙ passes;
+  plate-A-passes = λ out h. more-room (raised 14) (length out) h ∙ passes;
 }
   where
     never : ◌≡◌ {A = ℕ} 13 0 → ⊥

@@ -19,7 +19,7 @@ use Rattle.sheet.proofs.Checked.{layout-numbered}
 use Rattle.sheet.proofs.Reading.{ClearPoint}
 use Rattle.chart.specs.Chart.{answered, chosen, chartOf}
 use Rattle.frame.specs.Framing.{frame}
-use Rattle.chart.proofs.AnyOrder.{same_answer, same-later}
+use Rattle.chart.proofs.AnyOrder.{same-answer, same-later}
 use Rattle.chart.proofs.Outcomes.{chart-checks, chart-numbers, laterChecks}
 
 -- ---- the numbers of a sheet's content
@@ -35,13 +35,13 @@ content-numbers s reads phase out =
 
 pub content-reordered : (s : Sheet) (rings : List (List Coedge)) → Permᴰ s.rings rings → All (λ (r : List Coedge). All ClearPoint (ringPoints r)) s.rings → (phase room : ℕ)
     → numbersOf s phase room ≡ numbersOf (withRings s rings) phase room
-content-reordered s rings d clear phase room = ap₂ settled (ap first (same-later s rings d phase clear room)) (same_answer s rings d phase clear)
+content-reordered s rings d clear phase room = ap₂ settled (ap first (same-later s rings d phase clear room)) (same-answer s rings d phase clear)
 
 -- ---- of bytes
 
 module _ (s : List ℕ) (reads : first (layoutChecks s) ≡ 0) (bs : List (List ℕ)) (d : Permᴰ (blocks s) bs) where
-  same_numbers : (phase : ℕ) (out : List Float) → (chartOf (head s ++ flatten bs) phase out).numbers ≡ (chartOf s phase out).numbers
-  same_numbers phase out =
+  same-numbers : (phase : ℕ) (out : List Float) → (chartOf (head s ++ flatten bs) phase out).numbers ≡ (chartOf s phase out).numbers
+  same-numbers phase out =
       content-numbers (head s ++ flatten bs) (its-layout s reads bs d) phase out
       ∙ ap (λ (z : Sheet). numbersOf z phase (length out)) (its-sheet s reads bs d)
       ∙ sym (content-reordered (sheetOf s) (map ring bs) (its-rings s reads bs d) (rings-clear s) phase (length out))
@@ -49,4 +49,4 @@ module _ (s : List ℕ) (reads : first (layoutChecks s) ≡ 0) (bs : List (List 
 
   pub chart-reordered : (s ≡ head s ++ flatten (blocks s)) × (first (layoutChecks (head s ++ flatten bs)) ≡ 0) × (blocks (head s ++ flatten bs) ≡ bs)
       × ((phase : ℕ) (out : List Float) → (chartOf (head s ++ flatten bs) phase out).numbers ≡ (chartOf s phase out).numbers)
-  chart-reordered = (whole s reads, its-layout s reads bs d, its-blocks s reads bs d, same_numbers)
+  chart-reordered = (whole s reads, its-layout s reads bs d, its-blocks s reads bs d, same-numbers)

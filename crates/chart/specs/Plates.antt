@@ -9,7 +9,7 @@ use Rattle.leaves.specs.Root.{rootOf}
 use Rattle.leaves.specs.Round.{roundOf}
 use Rattle.sheet.specs.Content.{Point, point, Coedge, Sheet}
 use Rattle.sheet.specs.Layout.{sheetOf}
-use Rattle.points.specs.Grid.{up_from}
+use Rattle.points.specs.Grid.{upFrom}
 use Rattle.inside.specs.Inside.{insideOf}
 use Rattle.coverage.specs.Coverage.{windingOf}
 use Rattle.frame.specs.Framing.{joinsOpen}
@@ -50,8 +50,8 @@ left n = point plusZero (fraction (16 - n) 16)
 
 -- 17 points a side, both its ends among them; the ring's last point, which is (0, 0) on plate A itself, is given
 unfoldable pub sides : Point → List (List Point)
-unfolding up_from bottom right top left
-sides last = map bottom (up_from 0 17) ∷ map right (up_from 0 17) ∷ map top (up_from 0 17) ∷ (map left (up_from 0 16) ++ last ∷ []) ∷ []
+unfolding upFrom bottom right top left
+sides last = map bottom (upFrom 0 17) ∷ map right (upFrom 0 17) ∷ map top (upFrom 0 17) ∷ (map left (upFrom 0 16) ++ last ∷ []) ∷ []
 
 -- deviation 0
 abbrev pub exactCoedge : List Point → Coedge
@@ -106,7 +106,7 @@ sheetBytes s = bytes 4 (length (body s)) ++ body s
 
 pub record Plates : Type 0 where
   -- round(2.5) = 3, round(−2.5) = −3
-  pub round_up : roundOf (of_bits binary64 0x4004000000000000) ≡ of_bits binary64 0x4008000000000000
+  pub round-up : roundOf (of_bits binary64 0x4004000000000000) ≡ of_bits binary64 0x4008000000000000
   pub round-down : roundOf (of_bits binary64 0xC004000000000000) ≡ of_bits binary64 0xC008000000000000
   -- root(2) has bits 3FF6A09E667F3BCD; root(2^−1074) = 2^−537
   pub root-of-two : rootOf (of_bits binary64 0x4000000000000000) ≡ of_bits binary64 0x3FF6A09E667F3BCD

@@ -8,11 +8,11 @@ use lib.Ieee.{Float, binary64}
 use Rattle.leaves.specs.Bounds.{smallerOf}
 use Rattle.leaves.specs.Hypot.{hypotOfKey}
 use Rattle.leaves.proofs.Choices.{Clear}
-use Rattle.leaves.proofs.Folds.{All, all_of, fold-keeps}
+use Rattle.leaves.proofs.Folds.{All, all-of, fold-keeps}
 use Rattle.leaves.specs.Keys.{Key}
 use Rattle.leaves.proofs.Hypotenuses.{key-is, smaller-key, least-hypot, hypot-by-key, hypot-clear}
 use Rattle.sheet.specs.Content.{Point}
-use Rattle.answers.proofs.Permutations.{all_map}
+use Rattle.answers.proofs.Permutations.{all-map}
 use Rattle.points.specs.Segments.{Between, Segment, segments}
 use Rattle.clearance.specs.Clearance.{residual, copy, distance, leastOf, nearer}
 use Rattle.clearance.specs.Nearest.{keyTo}
@@ -22,7 +22,7 @@ module _ {A : Type 0} (key : Between A → Float) (keyed : (s : Between A) → K
   -- ---- one ring
 
   all-keyed : (ss : List (Between A)) → All (λ (s : Between A). Key (key s)) ss
-  all-keyed = all_of (λ (s : Between A). Key (key s)) keyed
+  all-keyed = all-of (λ (s : Between A). Key (key s)) keyed
 
   pub least-key : (k : Float) (ring : List A) → Key k → Key (leastOf key k ring)
   unfolding leastOf
@@ -34,7 +34,7 @@ module _ {A : Type 0} (key : Between A → Float) (keyed : (s : Between A) → K
   least-by-key k ring h =
       let ss = segments ring in
       sym (foldl-map key (λ (d l : Float). smallerOf d (hypotOfKey l)) ss (hypotOfKey k))
-      ∙ least-hypot (map key ss) (all_map Key key ss (all-keyed ss)) k h
+      ∙ least-hypot (map key ss) (all-map Key key ss (all-keyed ss)) k h
       ∙ ap hypotOfKey (foldl-map key smallerOf ss k)
 
   -- ---- many rings
@@ -52,9 +52,9 @@ module _ (periodic : Bool) (period : Float) (p : Point) where
   abbrev pub copyKey : Segment → Float
   copyKey s = keyTo p (copy periodic period p s)
 
-  copy_key : (s : Segment) → Key (copyKey s)
+  copy-key : (s : Segment) → Key (copyKey s)
   unfolding keyTo
-  copy_key s = key-is (residual p (copy periodic period p s)).u (residual p (copy periodic period p s)).v
+  copy-key s = key-is (residual p (copy periodic period p s)).u (residual p (copy periodic period p s)).v
 
   distance-by-key : distance periodic period p ≡ (λ (s : Segment). hypotOfKey (copyKey s))
   unfolding distance keyTo
@@ -68,4 +68,4 @@ module _ (periodic : Bool) (period : Float) (p : Point) where
       → foldl (nearer periodic period p) (hypotOfKey k) rings ≡ hypotOfKey (foldl (leastOf copyKey) k rings)
   unfolding nearer
   nearer-by-key k rings h =
-      ap (λ (d : Segment → Float). foldl (leastOf d) (hypotOfKey k) rings) distance-by-key ∙ nearest-by-key copyKey copy_key k rings h
+      ap (λ (d : Segment → Float). foldl (leastOf d) (hypotOfKey k) rings) distance-by-key ∙ nearest-by-key copyKey copy-key k rings h

@@ -12,10 +12,10 @@ use Rattle.sheet.specs.Content.{Point, point, pairs, flat}
 use Rattle.answers.specs.Lists.{over}
 use Rattle.answers.proofs.Over.{over-short, over-room, over-all}
 use Rattle.points.specs.Segments.{Segment, segment, segments}
-use Rattle.points.proofs.Flat.{length_pairs}
+use Rattle.points.proofs.Flat.{length-pairs}
 use Rattle.points.proofs.InPlace.{Written, part-written, over-written}
 use Rattle.points.proofs.RingFolds.{segments-count}
-use Rattle.points.proofs.Walk.{walk_none}
+use Rattle.points.proofs.Walk.{walk-none}
 use Rattle.clearance.specs.Clearance.{laid}
 use Rattle.clearance.specs.SegmentLists.{endsOf}
 use Rattle.clearance.proofs.SegmentsRead.{length-numbers}
@@ -26,15 +26,15 @@ module _ (change : Segment → Segment) where
   numbersOf ss = endsOf (map change ss)
 
   pub count-numbers : (ring : List Float) → length (flat (numbersOf (segments (pairs ring)))) ≡ 4 * (length ring / 2)
-  count-numbers ring = length-numbers (map change (segments (pairs ring))) ∙ ap (λ (n : ℕ). 4 * n) (length-map (segments (pairs ring)) change ∙ segments-count (pairs ring) ∙ length_pairs ring)
+  count-numbers ring = length-numbers (map change (segments (pairs ring))) ∙ ap (λ (n : ℕ). 4 * n) (length-map (segments (pairs ring)) change ∙ segments-count (pairs ring) ∙ length-pairs ring)
 
   -- ---- a call wrote the next one
 
-  pub laid_more : {before now : List Float} {whole : List Point} {ss : List Segment} (k : ℕ) (s : Segment) (rest : List Segment) (ys : List Float)
+  pub laid-more : {before now : List Float} {whole : List Point} {ss : List Segment} (k : ℕ) (s : Segment) (rest : List Segment) (ys : List Float)
       → Written before now (2 * (k - 1)) (numbersOf ss) whole → ss ≡ s ∷ rest → 1 ≤ k → 4 * k ≤ length before → ys ≡ flat (numbersOf (s ∷ []))
       → Written before (take (4 * k - 4) now ++ (ys ++ drop (4 * k - (4 * k - 4)) (drop (4 * k - 4) now))) (2 * (k + 1 - 1)) (numbersOf rest) whole
   unfolding endsOf
-  laid_more k s rest ys w e h room is =
+  laid-more k s rest ys w e h room is =
       let a : 4 * k - 4 ≡ 2 * (2 * (k - 1)) = omega arith in
       let b : 4 * k - 2 * (2 * (k - 1)) ≡ 2 * 2 = omega arith in
       let m : 2 * (k + 1 - 1) ≡ 2 * (k - 1) + 2 = omega arith in
@@ -61,18 +61,18 @@ module _ (change : Segment → Segment) where
 
     pub none-laid : length ring / 2 ≡ 0 → before ≡ over all before
     none-laid h =
-        nothing ∙ sym (ap (λ (ps : List Point). over (flat (numbersOf (segments ps))) before) (walk_none ring h))
+        nothing ∙ sym (ap (λ (ps : List Point). over (flat (numbersOf (segments ps))) before) (walk-none ring h))
 
 -- ---- a segment as it is laid
 
 -- over a list of four
-pub put_all : (s : Segment) (ys : List Float) → length ys ≡ 4 → over (flat (endsOf (s ∷ []))) ys ≡ flat (endsOf (s ∷ []))
+pub put-all : (s : Segment) (ys : List Float) → length ys ≡ 4 → over (flat (endsOf (s ∷ []))) ys ≡ flat (endsOf (s ∷ []))
 unfolding flat endsOf
-put_all s ys h = over-all _ ys h
+put-all s ys h = over-all _ ys h
 
 -- its part has four places
-pub part_room : (list : List Float) (k : ℕ) → 1 ≤ k → 4 * k ≤ length list → length (take (4 * k - (4 * k - 4)) (drop (4 * k - 4) list)) ≡ 4
-part_room list k h room =
+pub part-room : (list : List Float) (k : ℕ) → 1 ≤ k → 4 * k ≤ length list → length (take (4 * k - (4 * k - 4)) (drop (4 * k - 4) list)) ≡ 4
+part-room list k h room =
     let e : 4 * k - (4 * k - 4) ≡ 4 = omega arith in
     rw e (length-take-le 4 (drop (4 * k - 4) list) (simp length-drop (omega arith)))
 
@@ -81,6 +81,6 @@ unfolding laid
 laid-is true period s = refl
 laid-is false period s = refl
 
-pub put_is : (periodic : Bool) (period : Float) (a b : Point) (u : Float) (ys : List Float) → ys ≡ flat (endsOf (segment a (point u b.v) ∷ [])) → u ≡ (laid periodic period (segment a b)).b.u
+pub put-is : (periodic : Bool) (period : Float) (a b : Point) (u : Float) (ys : List Float) → ys ≡ flat (endsOf (segment a (point u b.v) ∷ [])) → u ≡ (laid periodic period (segment a b)).b.u
     → ys ≡ flat (numbersOf (laid periodic period) (segment a b ∷ []))
-put_is periodic period a b u ys e is = e ∙ ap (λ (x : Float). flat (endsOf (segment a (point x b.v) ∷ []))) is ∙ sym (ap (λ (s : Segment). flat (endsOf (s ∷ []))) (laid-is periodic period (segment a b)))
+put-is periodic period a b u ys e is = e ∙ ap (λ (x : Float). flat (endsOf (segment a (point x b.v) ∷ []))) is ∙ sym (ap (λ (s : Segment). flat (endsOf (s ∷ []))) (laid-is periodic period (segment a b)))

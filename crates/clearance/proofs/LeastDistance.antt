@@ -9,7 +9,7 @@ use lib.Dec.{T}
 use lib.Ieee.{Float, binary64, fits, is_nan}
 use Rattle.leaves.specs.Bounds.{smallerOf}
 use Rattle.leaves.proofs.Choices.{Clear, smaller-keeps, smaller-number, smaller-swap}
-use Rattle.leaves.proofs.Folds.{All, all_of, fold-keeps, fold-perm}
+use Rattle.leaves.proofs.Folds.{All, all-of, fold-keeps, fold-perm}
 use Rattle.points.specs.Segments.{Between, segments}
 use Rattle.clearance.specs.Clearance.{leastOf}
 
@@ -17,7 +17,7 @@ use Rattle.clearance.specs.Clearance.{leastOf}
 
 module _ {A S : Type 0} (step : S → A → S) (P : S → Type 0) (keeps : (s : S) (a : A) → P s → P (step s a)) where
   any : (xs : List A) → All (λ (a : A). Unit {0}) xs
-  any = all_of (λ (a : A). Unit {0}) (λ a. tt)
+  any = all-of (λ (a : A). Unit {0}) (λ a. tt)
 
   always : (xs : List A) (s : S) → P s → P (foldl step s xs)
   always xs = fold-keeps step P (λ (a : A). Unit {0}) (λ s a p q. keeps s a p) xs (any xs)

@@ -8,7 +8,7 @@ use lib.Ieee.{Float, nan}
 use lib.ListN.{length, get_or, drop, length-drop}
 use Rattle.sheet.specs.Content.{Point, point, pairs, flat}
 use Rattle.points.specs.Segments.{Segment, segment}
-use Rattle.points.proofs.Flat.{pairs-flat, pairs-at, length-flat, length_pairs}
+use Rattle.points.proofs.Flat.{pairs-flat, pairs-at, length-flat, length-pairs}
 use Rattle.points.proofs.Pairs.{pairs-step}
 use Rattle.clearance.specs.SegmentLists.{endsOf, couples, segmentsIn, segmentAt}
 
@@ -34,7 +34,7 @@ couples-short (a ∷ b ∷ ps) h = absurd (none (length ps) h)
 
 pub segments-end : (xs : List Float) (k : ℕ) → length xs / 4 ≤ k → segmentsIn (drop (4 * k) xs) ≡ []
 unfolding segmentsIn
-segments-end xs k h = couples-short (pairs (drop (4 * k) xs)) (simp (length_pairs, length-drop) (omega arith))
+segments-end xs k h = couples-short (pairs (drop (4 * k) xs)) (simp (length-pairs, length-drop) (omega arith))
 
 -- ---- there and back
 
@@ -86,11 +86,11 @@ segments-at xs k d h =
     let a : 4 * k ≡ 2 * (2 * k) = omega arith in
     let b : 4 * k + 2 ≡ 2 * (2 * k + 1) = omega arith in
     let c : 4 * k + 3 ≡ 2 * (2 * k + 1) + 1 = omega arith in
-    couples-at (pairs xs) k d (point nan nan) (simp length_pairs (omega arith)) ∙ rw (b, c, a, pairs-at xs (2 * k) nan (omega arith), pairs-at xs (2 * k + 1) nan (omega arith))
+    couples-at (pairs xs) k d (point nan nan) (simp length-pairs (omega arith)) ∙ rw (b, c, a, pairs-at xs (2 * k) nan (omega arith), pairs-at xs (2 * k + 1) nan (omega arith))
 
 pub segments-length : (xs : List Float) → length (segmentsIn xs) ≡ length xs / 4
 unfolding segmentsIn
-segments-length xs = couples-length (pairs xs) ∙ ap (λ (n : ℕ). n / 2) (length_pairs xs) ∙ halves (length xs)
+segments-length xs = couples-length (pairs xs) ∙ ap (λ (n : ℕ). n / 2) (length-pairs xs) ∙ halves (length xs)
   where
     halves : (n : ℕ) → n / 2 / 2 ≡ n / 4
     halves n = omega arith

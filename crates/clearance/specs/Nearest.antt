@@ -5,7 +5,7 @@ use Rattle.std.specs.Prelude.{Bool, true, ◌&&◌, ◌≡◌, ℕ, ◌/◌, ◌
 use mathlib.Core.List.{List, foldl}
 use Rattle.std.specs.Float.Ieee.{le}
 use Rattle.leaves.specs.Bounds.{smallerOf}
-use Rattle.leaves.specs.Hypot.{key_of}
+use Rattle.leaves.specs.Hypot.{keyOf}
 use Rattle.sheet.specs.Content.{Point}
 use Rattle.clearance.specs.Clearance.{residual}
 use Rattle.points.specs.Segments.{Segment}
@@ -13,7 +13,7 @@ use Rattle.clearance.specs.SegmentLists.{segmentAt}
 
 unfoldable pub keyTo : Point → Segment → Float
 unfolding residual
-keyTo p s = key_of (residual p s).u (residual p s).v
+keyTo p s = keyOf (residual p s).u (residual p s).v
 
 -- the least of `so far` and the keys of the segments
 unfoldable pub leastKey : Point → Float → List Segment → Float

@@ -20,8 +20,8 @@ past : (xs : List Float) (from n : ℕ) → length xs ≤ from → take n (drop 
 past xs from n h = rw (drop_of_length-le xs h) (take_all n [] (omega arith))
 
 -- two parts from one place that both reach the end
-to_end : (xs : List Float) (from m n : ℕ) → length xs - from ≤ m → length xs - from ≤ n → take m (drop from xs) ≡ take n (drop from xs)
-to_end xs from m n h k = take_all m (drop from xs) (simp length-drop h) ∙ sym (take_all n (drop from xs) (simp length-drop k))
+to-end : (xs : List Float) (from m n : ℕ) → length xs - from ≤ m → length xs - from ≤ n → take m (drop from xs) ≡ take n (drop from xs)
+to-end xs from m n h k = take_all m (drop from xs) (simp length-drop h) ∙ sym (take_all n (drop from xs) (simp length-drop k))
 
 pub cut-between : (xs : List Float) (from to start end : ℕ) → Placed from 0 (length xs) start → Placed to start (length xs) end → between start end xs ≡ between from to xs
 cut-between xs from to start end s e = by (dec_lt from (length xs))
@@ -40,7 +40,7 @@ cut-between xs from to start end s e = by (dec_lt from (length xs))
         rw (n, at)
     inside at h (no k) (yes l) =
         let f : end ≡ length xs = e.4 l in
-        rw at (to_end xs from (end - from) (to - from) (omega arith) (omega arith))
+        rw at (to-end xs from (end - from) (to - from) (omega arith) (omega arith))
     inside at h (no k) (no l) =
         let f : end ≡ to = e.2 (omega arith) (omega arith) in
         rw (f, at)

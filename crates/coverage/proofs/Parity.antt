@@ -18,8 +18,8 @@ use Rattle.coverage.specs.Coverage.{windingOf, crossing, crossings, oddℤ, onSi
 
 -- ---- odd or even
 
-abbrev one_of : Bool → ℤ
-one_of t = cond t (pos 1) (pos 0)
+abbrev oneOf : Bool → ℤ
+oneOf t = cond t (pos 1) (pos 0)
 
 odd-next : (n : ℕ) → oddℤ (pos (n + 1)) ≡ xor (oddℤ (pos n)) true
 unfolding oddℤ xor
@@ -39,7 +39,7 @@ odd-same n = let e : n + 0 ≡ n = omega arith in rw e (at (eqb (n % 2) 1))
     at false = refl
 
 module _ (band : Bool) (sense : ℕ) where
-  covered-odd : (n : ℕ) (t : Bool) → t ≡ oddℤ (pos n) → coveredBy band sense (pos n) ≡ coveredBy band sense (one_of t)
+  covered-odd : (n : ℕ) (t : Bool) → t ≡ oddℤ (pos n) → coveredBy band sense (pos n) ≡ coveredBy band sense (oneOf t)
   unfolding coveredBy oddℤ onSide
   covered-odd n true e =
       let o : n % 2 ≡ 1 = eqb-true (n % 2) 1 (sym e) in
@@ -53,7 +53,7 @@ module _ (band : Bool) (sense : ℕ) where
 
     -- and by the flips of the further ones
     abbrev byFlips : Bool → List (List Point) → Bool
-    byFlips t rings = coveredBy band sense (one_of (foldl (λ (t : Bool) (ring : List Point). xor t (insideOf ring p)) t rings))
+    byFlips t rings = coveredBy band sense (oneOf (foldl (λ (t : Bool) (ring : List Point). xor t (insideOf ring p)) t rings))
 
     covered-flips : (n : ℕ) (t : Bool) (rings : List (List Point)) → t ≡ oddℤ (pos n) → byCount n rings ≡ byFlips t rings
     unfolding crossing
@@ -64,15 +64,15 @@ module _ (band : Bool) (sense : ℕ) where
         (covered-flips (n + 0) (xor t false) rings (ap (λ (b : Bool). xor b false) e ∙ sym (odd-same n)))
       where
         by : (s : Bool) → byCount (n + 1) rings ≡ byFlips (xor t true) rings → byCount (n + 0) rings ≡ byFlips (xor t false) rings
-            → coveredBy band sense (foldl (λ (m : ℤ) (ring : List Point). m +ℤ crossing false period p ring) (pos n +ℤ one_of s) rings) ≡ byFlips (xor t s) rings
+            → coveredBy band sense (foldl (λ (m : ℤ) (ring : List Point). m +ℤ crossing false period p ring) (pos n +ℤ oneOf s) rings) ≡ byFlips (xor t s) rings
         by true h k = h
         by false h k = k
 
 -- ---- the grid's order, and by rows
 
-pub same_point : (k : ℕ) → k < 961 → byRows (inRows k) ≡ byColumns k
+pub same-point : (k : ℕ) → k < 961 → byRows (inRows k) ≡ byColumns k
 unfolding byRows byColumns
-same_point k h =
+same-point k h =
     let e : inRows k % 31 ≡ k / 31 = omega arith in
     let f : inRows k / 31 ≡ k % 31 = omega arith in
     rw (e, f)
@@ -86,6 +86,6 @@ module _ (f : Frame) (sense : ℕ) (rings : List (List Point)) (p : Point) where
   covered-winding e = rw e
 
   -- by the flips
-  pub covered-inside : f.periodic ≡ false → coveredBy f.band sense (one_of (foldl (λ (t : Bool) (ring : List Point). xor t (insideOf ring p)) false rings)) ≡ covered f sense rings p
+  pub covered-inside : f.periodic ≡ false → coveredBy f.band sense (oneOf (foldl (λ (t : Bool) (ring : List Point). xor t (insideOf ring p)) false rings)) ≡ covered f sense rings p
   unfolding covered crossings
   covered-inside e = sym (covered-flips f.band sense f.period p 0 false rings refl) ∙ rw e

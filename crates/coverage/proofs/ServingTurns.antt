@@ -9,25 +9,25 @@ use native.Mathlib.Omega.{arith}
 use lib.Dec.{T}
 use lib.Ieee.{Float, binary64, of_bits, add, sub, fits, eq, le}
 use Rattle.leaves.specs.Constants.{plusZero}
-use Rattle.leaves.proofs.Monotone.{sub_anti}
-use Rattle.leaves.proofs.Order.{eq→le, eq-sym, le_antisym, le_trans, same-nonzero, zero-of-eq}
+use Rattle.leaves.proofs.Monotone.{sub-anti}
+use Rattle.leaves.proofs.Order.{eq→le, eq-sym, le-antisym, le-trans, same-nonzero, zero-of-eq}
 use Rattle.leaves.proofs.Signs.{add-any-zero}
 use Rattle.leaves.proofs.Values.{sign}
 use Rattle.points.specs.Grid.{part}
 use Rattle.points.specs.Turns.{keepsOrder}
 use Rattle.coverage.specs.Lines.{turnAt, Turning}
 use Rattle.points.proofs.WholeTurns.{turns-fits, turns-mono}
-use Rattle.points.proofs.ColumnOrder.{holds, numbers, part-plain, part_up}
+use Rattle.points.proofs.ColumnOrder.{holds, numbers, part-plain, part-up}
 
 -- ---- equal turns add the same to a column
 
-zero_held : T (fits binary64 plusZero)
+zero-held : T (fits binary64 plusZero)
 unfolding of_bits fits
-zero_held = tt
+zero-held = tt
 
 equal-zero : (x y : Float) → T (fits binary64 x) → T (fits binary64 y) → T (le y x) → T (le x y) → T (eq x plusZero) → T (eq y plusZero)
 equal-zero x y h k p q e =
-    le_antisym y plusZero (le_trans binary64 y x plusZero k h zero_held p (eq→le x plusZero e)) (le_trans binary64 plusZero x y zero_held h k (eq→le plusZero x (eq-sym x plusZero e)) q)
+    le-antisym y plusZero (le-trans binary64 y x plusZero k h zero-held p (eq→le x plusZero e)) (le-trans binary64 plusZero x y zero-held h k (eq→le plusZero x (eq-sym x plusZero e)) q)
 
 added-same : (c x y : Float) → sign c ≡ false → T (fits binary64 x) → T (fits binary64 y) → T (le y x) → T (le x y) → add binary64 c y ≡ add binary64 c x
 added-same c x y n h k p q = by (eq x plusZero) (λ t. t) (λ t. t)
@@ -41,13 +41,13 @@ added-same c x y n h k p q = by (eq x plusZero) (λ t. t) (λ t. t)
 
 module _ (period mid : Float) (ordered : T (keepsOrder period mid)) where
   turn-down : (i j : ℕ) → i ≤ j → T (le (turnAt period mid j) (turnAt period mid i))
-  turn-down i j h = let n = numbers period mid ordered in turns-mono (sub binary64 mid (part j)) (sub binary64 mid (part i)) period n.above (sub_anti binary64 mid (part i) (part j) n.centre (part_up i j h))
+  turn-down i j h = let n = numbers period mid ordered in turns-mono (sub binary64 mid (part j)) (sub binary64 mid (part i)) period n.above (sub-anti binary64 mid (part i) (part j) n.centre (part-up i j h))
 
   pub turning-between : (i t : ℕ) → eq (turnAt period mid i) (turnAt period mid t) ≡ true → Turning period mid i t (turnAt period mid i)
   turning-between i t e m h k =
       let fit : (j : ℕ) → T (fits binary64 (turnAt period mid j)) = λ j. turns-fits (sub binary64 mid (part j)) period in
       added-same (part m) (turnAt period mid i) (turnAt period mid m) (part-plain m) (fit i) (fit m) (turn-down i m h)
-      (le_trans binary64 (turnAt period mid i) (turnAt period mid t) (turnAt period mid m) (fit i) (fit t) (fit m) (eq→le (turnAt period mid i) (turnAt period mid t) (holds (eq (turnAt period mid i) (turnAt period mid t)) e)) (turn-down m t k))
+      (le-trans binary64 (turnAt period mid i) (turnAt period mid t) (turnAt period mid m) (fit i) (fit t) (fit m) (eq→le (turnAt period mid i) (turnAt period mid t) (holds (eq (turnAt period mid i) (turnAt period mid t)) e)) (turn-down m t k))
 
 -- turns serve at their own column
 pub turning-here : (period mid : Float) (i : ℕ) → Turning period mid i i (turnAt period mid i)

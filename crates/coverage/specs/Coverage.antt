@@ -23,15 +23,15 @@ step pv au av bu bv w =
     (cond (lt au bu) (pos 1) (negsuc 0))
     (pos 0)
 
-unfoldable pub step_of : Float → Point → Segment → ℤ
+unfoldable pub stepOf : Float → Point → Segment → ℤ
 unfolding gained step turns add sub
-step_of period p s =
+stepOf period p s =
     step p.v s.a.u s.a.v (gained period s) s.b.v
     (add binary64 p.u (turns (sub binary64 (middle s.a.u (gained period s)) p.u) period))
 
 unfoldable pub windingOf : Float → Point → List Point → ℤ
-unfolding step_of segments
-windingOf period p ring = foldl (λ (n : ℤ) (s : Segment). n +ℤ step_of period p s) (pos 0) (segments ring)
+unfolding stepOf segments
+windingOf period p ring = foldl (λ (n : ℤ) (s : Segment). n +ℤ stepOf period p s) (pos 0) (segments ring)
 
 -- ---- crossings of one ring: "the number" of rings with `inside`, or "the sum over all rings" of the winding
 unfoldable pub crossing : Bool → Float → Point → List Point → ℤ

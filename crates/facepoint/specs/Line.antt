@@ -5,6 +5,6 @@ use Rattle.answers.specs.declared.outcomes.Answer.{Answer}
 use Rattle.answers.specs.declared.outcomes.Answer.TheVariants.{Point, Refused}
 use Rattle.text.specs.Line.{pointLine, refusalLine}
 
-unfoldable pub line_of : Answer → List ℕ
-line_of (Point x y z clearance count) = pointLine x y z clearance count
-line_of (Refused number) = refusalLine number
+unfoldable pub lineOf : Answer → List ℕ
+lineOf (Point x y z clearance count) = pointLine x y z clearance count
+lineOf (Refused number) = refusalLine number

@@ -7,7 +7,7 @@ ghost use Rattle.std.specs.Prelude.{◌≡◌, length, take};
 ghost use Rattle.io.specs.Counts.{IsPrefixLen};
 ghost use Rattle.answers.specs.Answers.{paper};
 ghost use Rattle.facepoint.specs.Answer.{answerTo};
-ghost use Rattle.facepoint.specs.Line.{line_of};
+ghost use Rattle.facepoint.specs.Line.{lineOf};
 ghost use Rattle.facepoint.specs.Read.{Within};
 
 use answers::Answer;
@@ -62,7 +62,7 @@ fn answer_to(input: &[u8]) -> Answer
 fn put_line(answer: Answer, page: &mut [u8]) -> usize
     requires { length page.old ≡ 81 }
     ensures prefix_len { IsPrefixLen result page.new }
-    ensures page_after { take result page.new ≡ line_of answer }
+    ensures page_after { take result page.new ≡ lineOf answer }
 {
     match answer {
         Answer::Point(x, y, z, clearance, count) => {

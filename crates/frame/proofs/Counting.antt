@@ -9,19 +9,19 @@ use Rattle.sheet.specs.Checks.{coedgeTotal}
 use Rattle.sheet.specs.Content.{Coedge, Sheet, ringPoints, flat}
 use Rattle.sheet.specs.Layout.{blockSize, ring, cut, blocks, headSize, kind, ringCount, sheetOf}
 use Rattle.sheet.proofs.BlockOrder.{withRings}
-use Rattle.sheet.proofs.Blocks.{ring-length, ring-points-length, first_byte}
-use Rattle.sheet.proofs.Walks.{cut_step, cut-end}
-use Rattle.points.proofs.Flat.{flat_append, length-flat}
-use Rattle.points.proofs.Moved.{length_moved}
+use Rattle.sheet.proofs.Blocks.{ring-length, ring-points-length, first-byte}
+use Rattle.sheet.proofs.Walks.{cut-step, cut-end}
+use Rattle.points.proofs.Flat.{flat-append, length-flat}
+use Rattle.points.proofs.Moved.{length-moved}
 use Rattle.frame.specs.Framing.{pointCount}
 use Rattle.frame.specs.Stages.{movedBlock}
 
 -- ---- the points of rings
 
 module _ (s : Sheet) where
-  pub count_none : pointCount (withRings s []) ≡ 0
+  pub count-none : pointCount (withRings s []) ≡ 0
   unfolding pointCount
-  count_none = refl
+  count-none = refl
 
   pub count-cons : (r : List Coedge) (rs : List (List Coedge)) → pointCount (withRings s (r ∷ rs)) ≡ length (ringPoints r) + pointCount (withRings s rs)
   unfolding pointCount
@@ -44,7 +44,7 @@ points-by-coedges (b ∷ bs) = omega (arith, sum-cons (λ (r : List Coedge). len
 pub points-step : (s : List ℕ) (at n k : ℕ) → k < n → pointsIn (cut (n - k) (drop at s)) ≡ 17 * get_or (drop at s) 0 0 + pointsIn (cut (n - (k + 1)) (drop (at + blockSize (drop at s)) s))
 points-step s at n k more =
     let b = drop at s in
-    ap pointsIn (cut_step s at n k more) ∙ points-cons (take (blockSize b) b) (cut (n - (k + 1)) (drop (at + blockSize b) s)) ∙ ap (λ (m : ℕ). 17 * m + pointsIn (cut (n - (k + 1)) (drop (at + blockSize b) s))) (first_byte b)
+    ap pointsIn (cut-step s at n k more) ∙ points-cons (take (blockSize b) b) (cut (n - (k + 1)) (drop (at + blockSize b) s)) ∙ ap (λ (m : ℕ). 17 * m + pointsIn (cut (n - (k + 1)) (drop (at + blockSize b) s))) (first-byte b)
 
 pub points-end : (s : List ℕ) (n k : ℕ) → n ≤ k → pointsIn (cut (n - k) s) ≡ 0
 points-end s n k h = ap pointsIn (cut-end s n k h)
@@ -59,8 +59,8 @@ pub moved-numbers : (kind phase : ℕ) (bs : List (List ℕ)) → length (flat (
 unfolding movedBlock flatten flat
 moved-numbers kind phase [] = refl
 moved-numbers kind phase (b ∷ bs) =
-    rw (flat_append (movedBlock kind phase b) (flatten (map (movedBlock kind phase) bs)))
-    (simp (length-append, length-flat, length_moved) (omega (arith, ring-points-length b, points-cons b bs, moved-numbers kind phase bs, length-flat (flatten (map (movedBlock kind phase) bs)))))
+    rw (flat-append (movedBlock kind phase b) (flatten (map (movedBlock kind phase) bs)))
+    (simp (length-append, length-flat, length-moved) (omega (arith, ring-points-length b, points-cons b bs, moved-numbers kind phase bs, length-flat (flatten (map (movedBlock kind phase) bs)))))
 
 -- ---- as many rings as the sheet's ring count says
 

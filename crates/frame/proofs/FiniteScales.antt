@@ -26,7 +26,7 @@ use Rattle.points.specs.Bounds.{least, greatest, axisOf}
 use Rattle.points.specs.Unroll.{movedRing}
 use Rattle.points.proofs.Flat.{length-flat}
 use Rattle.points.proofs.Reach.{moved-ring-most, least-most, greatest-most}
-use Rattle.frame.specs.Frame.{bandOf, periodicOf, spread, capped, boxed, framed, frame_of}
+use Rattle.frame.specs.Frame.{bandOf, periodicOf, spread, capped, boxed, framed, frameOf}
 use Rattle.frame.specs.Framing.{pointCount, movedRings, frame}
 use Rattle.frame.proofs.SheetFrame.{sheet-moved, numbers-count, points-least, points-most}
 
@@ -44,8 +44,8 @@ capped-finite true scale h = smaller-keeps (λ (x : Float). T (finite x)) scale 
 capped-finite false scale h = h
 
 framed-finite : (kind n : ℕ) (rings : List (List Point)) → n + n ≤ 2 ^ prec binary64 → 1 ≤ length (flatten rings) → All (MostPoint n) (flatten rings)
-    → T (finite (frame_of kind rings).scale_u) × T (finite (frame_of kind rings).scale_v)
-unfolding frame_of framed boxed
+    → T (finite (frameOf kind rings).scale_u) × T (finite (frameOf kind rings).scale_v)
+unfolding frameOf framed boxed
 framed-finite kind n rings fit some h =
     let ps = flatten rings in
     (capped-finite (periodicOf kind (bandOf kind rings)) (spread 0 ps) (spread-finite n 0 ps fit some h), spread-finite n 1 ps fit some h)

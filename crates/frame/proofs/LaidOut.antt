@@ -98,17 +98,17 @@ module _ (s : Sheet) (phase : ℕ) where
           not-zero z = let w : ◌≡◌ {A = Bool} true false = sym (eq-eqb n 0 z) ∙ k in let v : ◌≡◌ {A = ℕ} 0 1 = cc in omega arith
 
   module _ (fits : Bool) where
-    framed_is : framedOf fits s phase ≡ ready (first (seamChecks fits s phase)) (frame s phase)
+    framed-is : framedOf fits s phase ≡ ready (first (seamChecks fits s phase)) (frame s phase)
     unfolding framedOf
-    framed_is = refl
+    framed-is = refl
 
     -- the frame, of a sheet that passes the joins
     pub told-ready : (f : Frame) → framedOf fits s phase ≡ Ready f → (first (seamChecks fits s phase) ≡ 0) × (f ≡ frame s phase)
-    told-ready f t = ready-told (first (seamChecks fits s phase)) (frame s phase) f (sym framed_is ∙ t)
+    told-ready f t = ready-told (first (seamChecks fits s phase)) (frame s phase) f (sym framed-is ∙ t)
 
     -- the first check that fails
     pub told-refused : (n : ℕ) → framedOf fits s phase ≡ Refused n → (n ≡ first (seamChecks fits s phase)) × (n ≡ 0 → ⊥)
-    told-refused n t = refused-told (first (seamChecks fits s phase)) n (frame s phase) (sym framed_is ∙ t)
+    told-refused n t = refused-told (first (seamChecks fits s phase)) n (frame s phase) (sym framed-is ∙ t)
 
     -- where none fails the lists are of the sheet's size
     pub passed-fits : first (seamChecks fits s phase) ≡ 0 → fits ≡ true

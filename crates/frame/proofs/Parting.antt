@@ -8,7 +8,7 @@ use lib.Ieee.{Float}
 use lib.ListN.{length, take, drop, length-append, length-map}
 use lib.Seq.{take_at, drop_at}
 use Rattle.sheet.specs.Content.{Point, pairs, flat}
-use Rattle.points.proofs.Flat.{pairs-flat, flat_append, length-flat, changed-room}
+use Rattle.points.proofs.Flat.{pairs-flat, flat-append, length-flat, changed-room}
 use Rattle.frame.specs.Parts.{parts, ringsFrom, endsFrom, Ascends, Packed}
 
 -- ---- parted at their ends
@@ -21,9 +21,9 @@ module _ (ring : List Point) (rings : List (List Point)) (before : List Float) (
   behind = flat (flatten rings)
 
   -- the first ring is the part between its ends
-  first_part : take (to - from) (drop from (before ++ (flat ring ++ behind))) ≡ flat ring
+  first-part : take (to - from) (drop from (before ++ (flat ring ++ behind))) ≡ flat ring
   unfolding to behind
-  first_part =
+  first-part =
       let n : to - from ≡ length (flat ring) = omega (arith, length-flat ring) in
       rw (drop_at before (flat ring ++ behind) from h, n) (take_at (flat ring) behind (length (flat ring)) refl)
 
@@ -35,9 +35,9 @@ pub rings-of : (rings : List (List Point)) (before : List Float) (from : ℕ) �
 unfolding ringsFrom parts endsFrom flatten to behind
 rings-of [] before from h = refl
 rings-of (ring ∷ rings) before from h =
-    let e : before ++ flat (ring ++ flatten rings) ≡ before ++ (flat ring ++ flat (flatten rings)) = ap (λ (xs : List Float). before ++ xs) (flat_append ring (flatten rings)) in
+    let e : before ++ flat (ring ++ flatten rings) ≡ before ++ (flat ring ++ flat (flatten rings)) = ap (λ (xs : List Float). before ++ xs) (flat-append ring (flatten rings)) in
     rw e (ap₂ {C = List (List Point)} (λ (r : List Point) (rs : List (List Point)). r ∷ rs)
-    (ap pairs (first_part ring rings before from h) ∙ pairs-flat ring)
+    (ap pairs (first-part ring rings before from h) ∙ pairs-flat ring)
     (ap (λ (xs : List Float). ringsFrom (to ring rings before from h) (endsFrom (to ring rings before from h) rings) xs) (sym (append_assoc before (flat ring) (flat (flatten rings))))
     ∙ rings-of rings (before ++ flat ring) (to ring rings before from h) (next-before ring rings before from h)))
 
@@ -55,7 +55,7 @@ ends-ascend : (rings : List (List Point)) (from : ℕ) → Ascends from (endsFro
 unfolding endsFrom flatten flat
 ends-ascend [] from = omega arith
 ends-ascend (ring ∷ rings) from =
-    let n : from + 2 * length ring + length (flat (flatten rings)) ≡ from + length (flat (ring ++ flatten rings)) = simp (flat_append, length-append, length-flat) (omega arith) in
+    let n : from + 2 * length ring + length (flat (flatten rings)) ≡ from + length (flat (ring ++ flatten rings)) = simp (flat-append, length-append, length-flat) (omega arith) in
     (omega arith, subst (Ascends (from + 2 * length ring) (endsFrom (from + 2 * length ring) rings)) n (ends-ascend rings (from + 2 * length ring)))
 
 -- ---- rings that are packed

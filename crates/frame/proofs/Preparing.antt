@@ -14,18 +14,18 @@ use Rattle.sheet.specs.Content.{Point, ringPoints, flat, onPoints}
 use Rattle.sheet.specs.Layout.{blockSize, ring, kind}
 use Rattle.answers.specs.Lists.{over}
 use Rattle.answers.proofs.Over.{over-all}
-use Rattle.sheet.proofs.Blocks.{ring-points-length, first_byte}
-use Rattle.sheet.proofs.Walks.{cut_step, cut-end}
+use Rattle.sheet.proofs.Blocks.{ring-points-length, first-byte}
+use Rattle.sheet.proofs.Walks.{cut-step, cut-end}
 use Rattle.points.specs.Unroll.{movedRing}
-use Rattle.points.proofs.Flat.{pairs-flat, flat_append, length-flat}
-use Rattle.points.proofs.Moved.{length_moved}
+use Rattle.points.proofs.Flat.{pairs-flat, flat-append, length-flat}
+use Rattle.points.proofs.Moved.{length-moved}
 use Rattle.frame.specs.Parts.{endsFrom}
 use Rattle.frame.specs.Stages.{movedBlock, movedBlocks}
 
 -- ---- a part that overruns the end of its list is cut short
 
-pub cut_short : {A : Type 0} (s : List A) (at size low high : ℕ) → low ≡ min at (length s) → high ≡ min (at + size) (length s) → take (high - low) (drop low s) ≡ take size (drop at s)
-cut_short s at size low high lower upper = by (dec_le at (length s)) (dec_le (at + size) (length s))
+pub cut-short : {A : Type 0} (s : List A) (at size low high : ℕ) → low ≡ min at (length s) → high ≡ min (at + size) (length s) → take (high - low) (drop low s) ≡ take size (drop at s)
+cut-short s at size low high lower upper = by (dec_le at (length s)) (dec_le (at + size) (length s))
   where
     by : Dec (at ≤ length s) → Dec (at + size ≤ length s) → take (high - low) (drop low s) ≡ take size (drop at s)
     by (yes h) (yes k) =
@@ -82,14 +82,14 @@ module _ {kind phase : ℕ} {s : List ℕ} {n : ℕ} {whole : List (List Point)}
     moved-step : movedBlocks kind phase (n - k) (drop at s)
         ≡ movedBlock kind phase (take (blockSize (drop at s)) (drop at s)) ∷ movedBlocks kind phase (n - (k + 1)) (drop (at + blockSize (drop at s)) s)
     unfolding movedBlocks
-    moved-step = ap (map (movedBlock kind phase)) (cut_step s at n k more)
+    moved-step = ap (map (movedBlock kind phase)) (cut-step s at n k more)
 
     next-length : length (flat (movedBlock kind phase (take (blockSize (drop at s)) (drop at s)))) ≡ 34 * get_or s at 0
     unfolding movedBlock
     next-length =
         let b = take (blockSize (drop at s)) (drop at s) in
-        let byte : get_or b 0 0 ≡ get_or s at 0 = first_byte (drop at s) ∙ simp (get_or-drop, add-zero) in
-        omega (arith, length-flat (movedRing kind phase (ringPoints (ring b))), length_moved kind phase (ringPoints (ring b)), ring-points-length b, byte)
+        let byte : get_or b 0 0 ≡ get_or s at 0 = first-byte (drop at s) ∙ simp (get_or-drop, add-zero) in
+        omega (arith, length-flat (movedRing kind phase (ringPoints (ring b))), length-moved kind phase (ringPoints (ring b)), ring-points-length b, byte)
 
     next-room : from + 34 * get_or s at 0 + length (flat (flatten (movedBlocks kind phase (n - (k + 1)) (drop (at + blockSize (drop at s)) s)))) ≡ length points
     unfolding flatten
@@ -97,7 +97,7 @@ module _ {kind phase : ℕ} {s : List ℕ} {n : ℕ} {whole : List (List Point)}
         let m = movedBlock kind phase (take (blockSize (drop at s)) (drop at s)) in
         let rest = movedBlocks kind phase (n - (k + 1)) (drop (at + blockSize (drop at s)) s) in
         let e : length (flat (flatten (movedBlocks kind phase (n - k) (drop at s)))) ≡ length (flat m) + length (flat (flatten rest)) =
-        ap (λ (rs : List (List Point)). length (flat (flatten rs))) moved-step ∙ ap length (flat_append m (flatten rest)) ∙ length-append (flat m) (flat (flatten rest)) in
+        ap (λ (rs : List (List Point)). length (flat (flatten rs))) moved-step ∙ ap length (flat-append m (flatten rest)) ∙ length-append (flat m) (flat (flatten rest)) in
         omega (arith, p.room, e, next-length)
 
     pub part-within : from + 34 * get_or s at 0 ≤ length points
@@ -107,8 +107,8 @@ module _ {kind phase : ℕ} {s : List ℕ} {n : ℕ} {whole : List (List Point)}
     pub ring-room : (size byte low high : ℕ) → size ≡ blockSize (drop at s) → byte ≡ get_or s at 0 → low ≡ min at (length s) → high ≡ min (at + size) (length s)
         → length (take (from + 34 * byte - from) (drop from points)) ≡ 34 * get_or (take (high - low) (drop low s)) 0 0
     ring-room size byte low high sized told lower upper =
-        let e : take (high - low) (drop low s) ≡ take (blockSize (drop at s)) (drop at s) = cut_short s at size low high lower upper ∙ ap (λ (j : ℕ). take j (drop at s)) sized in
-        let first : get_or (take (blockSize (drop at s)) (drop at s)) 0 0 ≡ byte = first_byte (drop at s) ∙ simp (get_or-drop, add-zero) (sym told) in
+        let e : take (high - low) (drop low s) ≡ take (blockSize (drop at s)) (drop at s) = cut-short s at size low high lower upper ∙ ap (λ (j : ℕ). take j (drop at s)) sized in
+        let first : get_or (take (blockSize (drop at s)) (drop at s)) 0 0 ≡ byte = first-byte (drop at s) ∙ simp (get_or-drop, add-zero) (sym told) in
         let long : from + 34 * byte - from ≤ length (drop from points) = simp length-drop (omega (arith, part-within)) in
         rw (e, first, length-take-le (from + 34 * byte - from) (drop from points) long) (omega arith)
 
@@ -116,20 +116,20 @@ module _ {kind phase : ℕ} {s : List ℕ} {n : ℕ} {whole : List (List Point)}
     module _ (size byte low high : ℕ) (part : List Float) (sized : size ≡ blockSize (drop at s)) (told : byte ≡ get_or s at 0) (lower : low ≡ min at (length s)) (upper : high ≡ min (at + size) (length s))
         (m : part ≡ flat (movedBlock kind phase (take (high - low) (drop low s)))) where
       part-is : part ≡ flat (movedBlock kind phase (take (blockSize (drop at s)) (drop at s)))
-      part-is = m ∙ ap (λ (b : List ℕ). flat (movedBlock kind phase b)) (cut_short s at size low high lower upper ∙ ap (λ (j : ℕ). take j (drop at s)) sized)
+      part-is = m ∙ ap (λ (b : List ℕ). flat (movedBlock kind phase b)) (cut-short s at size low high lower upper ∙ ap (λ (j : ℕ). take j (drop at s)) sized)
 
-      part_length : length part ≡ 34 * byte
-      part_length = omega (arith, ap length part-is, next-length)
+      part-length : length part ≡ 34 * byte
+      part-length = omega (arith, ap length part-is, next-length)
 
-      front_length : length (take from points) ≡ from
-      front_length = length-take-le from points (omega (arith, part-within))
+      front-length : length (take from points) ≡ from
+      front-length = length-take-le from points (omega (arith, part-within))
 
-      pub same_size : length (take from points ++ (part ++ drop (from + 34 * byte - from) (drop from points))) ≡ length points
-      same_size = simp (length-append, length-drop) (omega (arith, front_length, part_length, part-within))
+      pub same-size : length (take from points ++ (part ++ drop (from + 34 * byte - from) (drop from points))) ≡ length points
+      same-size = simp (length-append, length-drop) (omega (arith, front-length, part-length, part-within))
 
       front-is : take (from + 34 * byte) (take from points ++ (part ++ drop (from + 34 * byte - from) (drop from points))) ≡ take from points ++ part
       front-is =
-          let l : length (take from points ++ part) ≡ from + 34 * byte = simp length-append (omega (arith, front_length, part_length)) in
+          let l : length (take from points ++ part) ≡ from + 34 * byte = simp length-append (omega (arith, front-length, part-length)) in
           ap (take (from + 34 * byte)) (sym (append_assoc (take from points) part (drop (from + 34 * byte - from) (drop from points))))
           ∙ take_at (take from points ++ part) (drop (from + 34 * byte - from) (drop from points)) (from + 34 * byte) l
 
@@ -146,9 +146,9 @@ module _ {kind phase : ℕ} {s : List ℕ} {n : ℕ} {whole : List (List Point)}
             numbers =
                 ap (λ (xs : List Float). xs ++ flat (flatten rest)) (front-is ∙ ap (λ (xs : List Float). take from points ++ xs) part-is)
                 ∙ append_assoc (take from points) (flat ms) (flat (flatten rest))
-                ∙ ap (λ (xs : List Float). take from points ++ xs) (sym (flat_append ms (flatten rest)) ∙ ap (λ (rs : List (List Point)). flat (flatten rs)) (sym moved-step))
+                ∙ ap (λ (xs : List Float). take from points ++ xs) (sym (flat-append ms (flatten rest)) ∙ ap (λ (rs : List (List Point)). flat (flatten rs)) (sym moved-step))
                 ∙ p.numbers;
-            room = omega (arith, next-room, same_size);
+            room = omega (arith, next-room, same-size);
             parted =
                 rw noted
                 (append_assoc (take k ends) ((from + 34 * byte) ∷ []) (endsFrom (from + 34 * byte) rest)
@@ -159,17 +159,17 @@ module _ {kind phase : ℕ} {s : List ℕ} {n : ℕ} {whole : List (List Point)}
 
   -- every ring is moved
   module _ (h : n ≤ k) where
-    none_left : movedBlocks kind phase (n - k) (drop at s) ≡ []
+    none-left : movedBlocks kind phase (n - k) (drop at s) ≡ []
     unfolding movedBlocks
-    none_left = ap (map (movedBlock kind phase)) (cut-end (drop at s) n k h)
+    none-left = ap (map (movedBlock kind phase)) (cut-end (drop at s) n k h)
 
-    pub all_moved : points ≡ flat (flatten whole)
+    pub all-moved : points ≡ flat (flatten whole)
     unfolding flatten flat
-    all_moved =
-        let r : from ≡ length points = omega (arith, p.room, ap (λ (rs : List (List Point)). length (flat (flatten rs))) none_left) in
+    all-moved =
+        let r : from ≡ length points = omega (arith, p.room, ap (λ (rs : List (List Point)). length (flat (flatten rs))) none-left) in
         sym (append-nil points)
         ∙ ap (λ (xs : List Float). xs ++ []) (sym (take_all from points (omega arith)))
-        ∙ ap (λ (rs : List (List Point)). take from points ++ flat (flatten rs)) (sym none_left)
+        ∙ ap (λ (rs : List (List Point)). take from points ++ flat (flatten rs)) (sym none-left)
         ∙ p.numbers
 
     pub all-parted : ends ≡ endsFrom 0 whole
@@ -177,5 +177,5 @@ module _ {kind phase : ℕ} {s : List ℕ} {n : ℕ} {whole : List (List Point)}
     all-parted =
         sym (append-nil ends)
         ∙ ap (λ (es : List ℕ). es ++ []) (sym (take_all k ends (omega (arith, p.count))))
-        ∙ ap (λ (rs : List (List Point)). take k ends ++ endsFrom from rs) (sym none_left)
+        ∙ ap (λ (rs : List (List Point)). take k ends ++ endsFrom from rs) (sym none-left)
         ∙ p.parted

@@ -5,7 +5,7 @@ use mathlib.Core.Path.{◌≡◌, refl, sym, ap, ap₂, ◌∙◌}
 use Prim.Native.Nat.{ℕ, ◌*◌, ◌≤◌}
 use native.Mathlib.Omega.{arith}
 use lib.ListN.{length, drop}
-use Rattle.answers.specs.Lists.{any_of}
+use Rattle.answers.specs.Lists.{anyOf}
 use Rattle.answers.specs.Outcome.{first}
 use Rattle.sheet.specs.Checks.{layoutChecks, contentChecks}
 use Rattle.sheet.specs.Content.{Point, Coedge, ringPoints, flat}
@@ -14,9 +14,9 @@ use Rattle.sheet.proofs.Blocks.{coedge-points}
 use Rattle.sheet.proofs.Checked.{checked}
 use Rattle.points.specs.Joins.{opens}
 use Rattle.points.specs.Unroll.{movedRing}
-use Rattle.points.proofs.Moved.{length_moved}
+use Rattle.points.proofs.Moved.{length-moved}
 use Rattle.points.proofs.Opening.{opening}
-use Rattle.frame.specs.Frame.{frame_of}
+use Rattle.frame.specs.Frame.{frameOf}
 use Rattle.frame.specs.Framing.{movedRings, frame, anyOpen, joinsOpen, pointCount, joinRows, joinChecks}
 use Rattle.frame.specs.Stages.{movedBlock, movedBlocks, openEvery}
 use Rattle.frame.specs.declared.framing.Frame.{Frame}
@@ -36,28 +36,28 @@ sheet-moved s phase = blocks-moved (kind s) phase (cut (ringCount s) (drop (head
 -- every coedge has seventeen points, so which points are their coedge's first is told by counting
 rings-open : (f : Frame) (kind phase : ℕ) (bs : List (List ℕ))
     → anyOpen f opens (λ (r : List Coedge). movedRing kind phase (ringPoints r)) (map ring bs) ≡ openEvery f (map (movedBlock kind phase) bs)
-unfolding any_of anyOpen movedBlock
+unfolding anyOf anyOpen movedBlock
 rings-open f kind phase [] = refl
 rings-open f kind phase (b ∷ bs) =
     let ps = movedRing kind phase (ringPoints (ring b)) in
-    rw (opening 16 (ring b) ps (coedge-points b) (length_moved kind phase (ringPoints (ring b))), rings-open f kind phase bs)
+    rw (opening 16 (ring b) ps (coedge-points b) (length-moved kind phase (ringPoints (ring b))), rings-open f kind phase bs)
 
 module _ (s : List ℕ) (phase : ℕ) where
   abbrev rings : List (List Point)
   rings = movedBlocks (kind s) phase (ringCount s) (drop (headSize (kind s)) s)
 
-  pub sheet-frame : frame (sheetOf s) phase ≡ frame_of (kind s) rings
+  pub sheet-frame : frame (sheetOf s) phase ≡ frameOf (kind s) rings
   unfolding frame sheetOf
-  sheet-frame = ap (frame_of (kind s)) (sheet-moved s phase)
+  sheet-frame = ap (frameOf (kind s)) (sheet-moved s phase)
 
-  pub sheet-open : joinsOpen (sheetOf s) phase ≡ openEvery (frame_of (kind s) rings) rings
+  pub sheet-open : joinsOpen (sheetOf s) phase ≡ openEvery (frameOf (kind s) rings) rings
   unfolding joinsOpen sheetOf blocks movedBlocks
   sheet-open =
       ap (λ (f : Frame). anyOpen f opens (λ (r : List Coedge). movedRing (kind s) phase (ringPoints r)) (sheetOf s).rings) sheet-frame
-      ∙ rings-open (frame_of (kind s) rings) (kind s) phase (cut (ringCount s) (drop (headSize (kind s)) s))
+      ∙ rings-open (frameOf (kind s) rings) (kind s) phase (cut (ringCount s) (drop (headSize (kind s)) s))
 
   -- checks 11 to 13 are the rows of the frame
-  pub sheet-rows : joinChecks (sheetOf s) phase ≡ joinRows (frame_of (kind s) rings) (openEvery (frame_of (kind s) rings) rings)
+  pub sheet-rows : joinChecks (sheetOf s) phase ≡ joinRows (frameOf (kind s) rings) (openEvery (frameOf (kind s) rings) rings)
   unfolding joinChecks
   sheet-rows = ap₂ joinRows sheet-frame sheet-open
 

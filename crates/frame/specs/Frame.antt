@@ -10,13 +10,13 @@ use Rattle.std.specs.Float.Ieee.{sub, div, le}
 use Rattle.leaves.specs.Bounds.{smallerOf}
 use Rattle.leaves.specs.Constants.{pi, tau, scaleLimit}
 use Rattle.sheet.specs.Content.{Point}
-use Rattle.answers.specs.Lists.{any_of}
+use Rattle.answers.specs.Lists.{anyOf}
 use Rattle.points.specs.Bounds.{least, greatest, axisOf, goesAround}
 use Rattle.frame.specs.declared.framing.Frame.{Frame}
 
 unfoldable pub bandOf : ℕ → List (List Point) → Bool
-unfolding any_of goesAround
-bandOf kind rings = eqb kind 4 && any_of goesAround rings
+unfolding anyOf goesAround
+bandOf kind rings = eqb kind 4 && anyOf goesAround rings
 
 unfoldable pub periodicOf : ℕ → Bool → Bool
 periodicOf kind band = eqb kind 1 || eqb kind 2 || band
@@ -47,9 +47,9 @@ unfoldable pub framed : Bool → Bool → List Point → Frame
 unfolding boxed least axisOf spread
 framed periodic band ps = boxed periodic band (least (map (axisOf 0) ps)) (least (map (axisOf 1) ps)) (spread 0 ps) (spread 1 ps)
 
-unfoldable pub frame_of : ℕ → List (List Point) → Frame
+unfoldable pub frameOf : ℕ → List (List Point) → Frame
 unfolding framed periodicOf bandOf flatten
-frame_of kind rings = framed (periodicOf kind (bandOf kind rings)) (bandOf kind rings) (flatten rings)
+frameOf kind rings = framed (periodicOf kind (bandOf kind rings)) (bandOf kind rings) (flatten rings)
 
 -- ---- 11: "torus band with v scale ≥ PI"
 unfoldable pub bandWide : Frame → Bool

@@ -2,12 +2,12 @@
 -- of a sheet that "passes the joins".
 use Rattle.std.specs.Prelude.{Bool, not, ◌&&◌, ◌||◌, ℕ, ◌+◌, eqb, ltb, length}
 use mathlib.Core.List.{List, [], ◌∷◌, map, foldl}
-use Rattle.answers.specs.Lists.{any_of}
+use Rattle.answers.specs.Lists.{anyOf}
 use Rattle.answers.specs.Outcome.{Check, check}
 use Rattle.sheet.specs.Content.{Point, Coedge, Sheet, ringPoints}
 use Rattle.points.specs.Unroll.{movedRing}
 use Rattle.points.specs.Joins.{opens, ringOpen}
-use Rattle.frame.specs.Frame.{frame_of, bandWide, narrow}
+use Rattle.frame.specs.Frame.{frameOf, bandWide, narrow}
 use Rattle.frame.specs.declared.framing.Frame.{Frame}
 
 -- ---- 8: "phase not 0 or 1; 1 off a torus"
@@ -22,8 +22,8 @@ pointCount s = foldl (λ (n : ℕ) (r : List Coedge). n + length (ringPoints r))
 -- ---- 4, for check 13: whether any ring has a join above 1e-4, of rings with these points and, for each point, whether
 -- it is its coedge's first
 unfoldable pub anyOpen : {A : Type 0} → Frame → (A → List Bool) → (A → List Point) → List A → Bool
-unfolding any_of ringOpen
-anyOpen {A} f opens points rings = any_of (λ (r : A). ringOpen f.periodic f.scale_u f.scale_v (opens r) (points r)) rings
+unfolding anyOf ringOpen
+anyOpen {A} f opens points rings = anyOf (λ (r : A). ringOpen f.periodic f.scale_u f.scale_v (opens r) (points r)) rings
 
 -- ---- the table's rows 11 to 13, in a frame
 unfoldable pub joinRows : Frame → Bool → List Check
@@ -40,8 +40,8 @@ module _ (s : Sheet) (phase : ℕ) where
 
   -- 3: box, band and periodic, and rule 5's P
   unfoldable pub frame : Frame
-  unfolding frame_of movedRings
-  frame = frame_of s.kind movedRings
+  unfolding frameOf movedRings
+  frame = frameOf s.kind movedRings
 
   -- 4
   unfoldable pub joinsOpen : Bool

@@ -1,7 +1,7 @@
 // Rule 3: the box of all rings, band and periodic, and the checks 11 to 13.
 ghost use Rattle.std.specs.Prelude.{◌≡◌, length};
 ghost use Rattle.sheet.specs.Content.{pairs};
-ghost use Rattle.answers.specs.Lists.{any_of};
+ghost use Rattle.answers.specs.Lists.{anyOf};
 ghost use Rattle.points.specs.Bounds.{goesAround};
 ghost use Rattle.frame.specs.Frame.{bandOf, periodicOf, capped as cappedAt, framed, bandWide, narrow as narrowIn};
 ghost use Rattle.frame.specs.Parts.{ringsFrom, Ascends};
@@ -27,7 +27,7 @@ pub struct Frame {
 // Whether a ring goes around.
 fn any_goes_around(points: &[f64], ends: &[usize]) -> bool
     requires { Ascends 0 ends.now (length points.now) }
-    ensures { result ≡ any_of goesAround (ringsFrom 0 ends.now points.now) }
+    ensures { result ≡ anyOf goesAround (ringsFrom 0 ends.now points.now) }
 {
     let mut from = 0usize;
     let mut k = 0;

@@ -88,8 +88,8 @@ module _ (x : Float) where
       (below-before n (m + 1) (omega arith) (rw e at b))
 
   module _ (m n : ℕ) (order : m ≤ n) (last : n < 31) where
-    pub first_below : lt (part (n + 1)) x ≡ true → lt (part (m + 1)) x ≡ true
-    first_below b =
+    pub first-below : lt (part (n + 1)) x ≡ true → lt (part (m + 1)) x ≡ true
+    first-below b =
         let e : n ≡ m + (n - m) = omega arith in
         so (lt (part (m + 1)) x) (below-before (n - m) m (omega arith) (rw (← e) (subst T (sym b) tt)))
       where
@@ -102,7 +102,7 @@ module _ (x : Float) where
       where
         by : (t : Bool) → lt (part (n + 1)) x ≡ t → lt (part (n + 1)) x ≡ false
         by false e = e
-        by true e = let z : ◌≡◌ {A = Bool} false true = sym a ∙ first_below e in cc
+        by true e = let z : ◌≡◌ {A = Bool} false true = sym a ∙ first-below e in cc
 
   -- ---- the count, from one nearby
 
@@ -110,8 +110,8 @@ module _ (x : Float) where
     pub none-at-end : 31 ≤ count → count ≤ 31 → NoneAfter x count
     none-at-end h k = record { most = k; none = λ m l n. absurd (omega arith) }
 
-    pub none_above : count < 31 → lt (part (count + 1)) x ≡ false → NoneAfter x count
-    none_above h e = record { most = omega arith; none = λ m l n. later-above count m l n e }
+    pub none-above : count < 31 → lt (part (count + 1)) x ≡ false → NoneAfter x count
+    none-above h e = record { most = omega arith; none = λ m l n. later-above count m l n e }
 
     module _ (none : NoneAfter x count) where
       pub none-lower : 0 < count → lt (part count) x ≡ false → NoneAfter x (count - 1)
@@ -120,18 +120,18 @@ module _ (x : Float) where
           let most = none.most in
           record { most = omega arith; none = λ m l n. later-above (count - 1) m l n (rw (← f) e) }
 
-      pub below_last : 0 < count → lt (part count) x ≡ true → Below x count
-      below_last h e = record { most = none.most; is = λ m l. by m l (dec_lt m count) }
+      pub below-last : 0 < count → lt (part count) x ≡ true → Below x count
+      below-last h e = record { most = none.most; is = λ m l. by m l (dec_lt m count) }
         where
           by : (m : ℕ) → m < 31 → Dec (m < count) → lt (part (m + 1)) x ≡ ltb m count
           by m l (yes p) =
               let f : count ≡ count - 1 + 1 = omega arith in
               let most = none.most in
-              first_below m (count - 1) (omega arith) (omega arith) (rw (← f) e) ∙ sym (lt-ltb m count p)
+              first-below m (count - 1) (omega arith) (omega arith) (rw (← f) e) ∙ sym (lt-ltb m count p)
           by m l (no p) = none.none m (omega arith) l ∙ sym (le-ltb m count (omega arith))
 
-      pub below_none : count ≤ 0 → Below x count
-      below_none h = record { most = none.most; is = λ m l. none.none m (omega arith) l ∙ sym (le-ltb m count (omega arith)) }
+      pub below-none : count ≤ 0 → Below x count
+      below-none h = record { most = none.most; is = λ m l. none.none m (omega arith) l ∙ sym (le-ltb m count (omega arith)) }
 
 -- ---- the lines between two numbers
 
@@ -145,16 +145,16 @@ between m p q h = by (dec_lt m p) (dec_lt m q)
     by (no k) (yes l) = rw (le-ltb m p (omega arith), lt-ltb m q l, le-leb p m (omega arith))
     by (no k) (no l) = rw (le-ltb m p (omega arith), le-ltb m q (omega arith), le-leb p m (omega arith))
 
-xor_comm : (a b : Bool) → xor a b ≡ xor b a
+xor-comm : (a b : Bool) → xor a b ≡ xor b a
 unfolding xor
-xor_comm true true = refl
-xor_comm true false = refl
-xor_comm false true = refl
-xor_comm false false = refl
+xor-comm true true = refl
+xor-comm true false = refl
+xor-comm false true = refl
+xor-comm false false = refl
 
 module _ (a b : Float) (p q : ℕ) (below-a : Below a p) (below-b : Below b q) where
   pub parted-up : p ≤ q → Parted a b p q
   parted-up h = record { order = h; most = below-b.most; is = λ m l. rw (below-a.is m l, below-b.is m l) (between m p q h) }
 
   pub parted-down : q ≤ p → Parted a b q p
-  parted-down h = record { order = h; most = below-a.most; is = λ m l. rw (below-a.is m l, below-b.is m l) (xor_comm (ltb m p) (ltb m q) ∙ between m q p h) }
+  parted-down h = record { order = h; most = below-a.most; is = λ m l. rw (below-a.is m l, below-b.is m l) (xor-comm (ltb m p) (ltb m q) ∙ between m q p h) }

@@ -12,10 +12,10 @@ use Rattle.sheet.specs.Content.{Point}
 use Rattle.points.proofs.Anew.{anew, anew-length, anew-before, anew-in, anew-after}
 use Rattle.answers.specs.Lists.{over}
 use Rattle.answers.proofs.Over.{over-all}
-use Rattle.points.specs.Grid.{up_from, gridOf}
+use Rattle.points.specs.Grid.{upFrom, gridOf}
 use Rattle.inside.specs.Inside.{insideOf}
 use Rattle.inside.specs.Lines.{Holds, byRows, flippedBy}
-use Rattle.points.proofs.GridOrder.{up-length, row_at, grid-length, grid-nth}
+use Rattle.points.proofs.GridOrder.{up-length, row-at, grid-length, grid-nth}
 
 -- ---- cells that change by their place, one after the other or line after line
 
@@ -66,8 +66,8 @@ module _ {A : Type 0} (none : A) (size : ℕ) (change : ℕ → A → A) (old : 
               let e : at + m ≡ k = omega arith in
               rw (← e) (anew-in none l ys at x new.count fit m (omega arith) ∙ new.is m (omega arith) ∙ meant m (omega arith))
 
-    pub all_changed : size ≤ at → Holds none size l (λ (k : ℕ). change k (get_or old k none))
-    all_changed h = record { count = c.count; is = λ k n. c.done k (omega arith) }
+    pub all-changed : size ≤ at → Holds none size l (λ (k : ℕ). change k (get_or old k none))
+    all-changed h = record { count = c.count; is = λ k n. c.done k (omega arith) }
 
 -- ---- what all cells hold is the list
 
@@ -79,13 +79,13 @@ all-grid none l f h = ext_get_or none l (gridOf f) (h.count ∙ sym (grid-length
 module _ (ring : List Point) (cells : List Bool) where
   pub flipped-length : length (flippedBy ring cells) ≡ 961
   unfolding flippedBy
-  flipped-length = length-map (up_from 0 961) _ ∙ up-length 0 961
+  flipped-length = length-map (upFrom 0 961) _ ∙ up-length 0 961
 
   flipped-at : (k : ℕ) → k < 961 → get_or (flippedBy ring cells) k false ≡ xor (get_or cells k false) (insideOf ring (byRows k))
   unfolding flippedBy
   flipped-at k h =
       let e : 0 + k ≡ k = omega arith in
-      row_at (λ (i k : ℕ). xor (get_or cells k false) (insideOf ring (byRows k))) false 0 0 961 k h ∙ rw e
+      row-at (λ (i k : ℕ). xor (get_or cells k false) (insideOf ring (byRows k))) false 0 0 961 k h ∙ rw e
 
   module _ {l : List Bool} where
     pub all-flipped : Holds false 961 l (λ (k : ℕ). xor (get_or cells k false) (insideOf ring (byRows k))) → l ≡ flippedBy ring cells

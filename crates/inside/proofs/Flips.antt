@@ -50,13 +50,13 @@ module _ (a b : Point) where
         let top : k / 31 < 31 = omega arith in
         rw (flips-row k, parted.is (k / 31) top, e) (unflipped t)
 
-    pub still_before : (k : ℕ) → k < 961 → k < 31 * low → (t : Bool) → xor t (flips (byRows k) a b) ≡ t
-    still_before k h l t =
+    pub still-before : (k : ℕ) → k < 961 → k < 31 * low → (t : Bool) → xor t (flips (byRows k) a b) ≡ t
+    still-before k h l t =
         let n : k / 31 < low = omega arith in
         row-still k h (rw (lt-leb low (k / 31) n)) t
 
-    pub still_after : (k : ℕ) → k < 961 → 31 * high ≤ k → (t : Bool) → xor t (flips (byRows k) a b) ≡ t
-    still_after k h l t = row-still k h (past (leb low (k / 31)) (le-ltb (k / 31) high (omega arith))) t
+    pub still-after : (k : ℕ) → k < 961 → 31 * high ≤ k → (t : Bool) → xor t (flips (byRows k) a b) ≡ t
+    still-after k h l t = row-still k h (past (leb low (k / 31)) (le-ltb (k / 31) high (omega arith))) t
       where
         past : (s : Bool) → ltb (k / 31) high ≡ false → s && ltb (k / 31) high ≡ false
         past true e = e

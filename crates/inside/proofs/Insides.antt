@@ -7,20 +7,20 @@ use lib.Ieee.{Float}
 use lib.ListN.{length}
 use Rattle.sheet.specs.Content.{Point, pairs}
 use Rattle.points.specs.Segments.{Segment}
-use Rattle.points.proofs.Walk.{edges, pointAt, walk, walk_none, walk_start, back_start, adds-from}
+use Rattle.points.proofs.Walk.{edges, pointAt, walk, walk-none, walk-start, back-start, adds-from}
 use Rattle.inside.specs.Inside.{flips, insideFrom, insideOf}
 use Rattle.inside.proofs.Flips.{unflipped}
 
-xor_assoc : (a b c : Bool) → xor (xor a b) c ≡ xor a (xor b c)
+xor-assoc : (a b c : Bool) → xor (xor a b) c ≡ xor a (xor b c)
 unfolding xor
-xor_assoc true true true = refl
-xor_assoc true true false = refl
-xor_assoc true false true = refl
-xor_assoc true false false = refl
-xor_assoc false true true = refl
-xor_assoc false true false = refl
-xor_assoc false false true = refl
-xor_assoc false false false = refl
+xor-assoc true true true = refl
+xor-assoc true true false = refl
+xor-assoc true false true = refl
+xor-assoc true false false = refl
+xor-assoc false true true = refl
+xor-assoc false true false = refl
+xor-assoc false false true = refl
+xor-assoc false false false = refl
 
 module _ (p : Point) where
   -- the answer with one edge more
@@ -35,18 +35,18 @@ module _ (p : Point) where
   module _ (ring : List Float) where
     pub inside-none : length ring / 2 ≡ 0 → insideOf (pairs ring) p ≡ false
     unfolding insideOf
-    inside-none h = rw (walk_none ring h)
+    inside-none h = rw (walk-none ring h)
 
     -- from the last point on
     pub inside-start : 1 < length ring → foldl flipStep false (walk ring [] (pointAt ring (length ring / 2 - 1)) 0) ≡ insideOf (pairs ring) p
     unfolding insideOf
     inside-start h =
-        ap (foldl flipStep false) (sym (back_start ring h))
+        ap (foldl flipStep false) (sym (back-start ring h))
         ∙ sym (folded false _ (pairs ring))
-        ∙ rw (walk_start ring h)
+        ∙ rw (walk-start ring h)
 
     -- the same, over a cell
     pub flips-start : (t : Bool) → 1 < length ring → foldl flipStep t (walk ring [] (pointAt ring (length ring / 2 - 1)) 0) ≡ xor t (insideOf (pairs ring) p)
     flips-start t h =
-        adds-from xor false unflipped xor_assoc (λ (e : Segment). flips p e.b e.a) t (walk ring [] (pointAt ring (length ring / 2 - 1)) 0)
+        adds-from xor false unflipped xor-assoc (λ (e : Segment). flips p e.b e.a) t (walk ring [] (pointAt ring (length ring / 2 - 1)) 0)
         ∙ ap (xor t) (inside-start h)

@@ -4,7 +4,7 @@ use Rattle.std.proofs.Math.Bool.{xor}
 use Rattle.std.specs.Float.{binary64}
 use Rattle.std.specs.Float.Ieee.{add, sub, mul, div, lt}
 use Rattle.sheet.specs.Content.{Point}
-use Rattle.points.specs.Bounds.{last_of}
+use Rattle.points.specs.Bounds.{lastOf}
 
 -- ---- "`inside`: starts no; for each ring point a with the one before it b (the last before the first), it flips when
 -- just one of a.v > p.v, b.v > p.v holds and p.u < (b.u − a.u)×(p.v − a.v)/(b.v − a.v) + a.u"
@@ -21,6 +21,6 @@ insideFrom p so_far b [] = so_far
 insideFrom p so_far b (a ∷ rest) = insideFrom p (xor so_far (flips p a b)) a rest
 
 unfoldable pub insideOf : List Point → Point → Bool
-unfolding insideFrom last_of
+unfolding insideFrom lastOf
 insideOf [] p = false
-insideOf (a ∷ rest) p = insideFrom p false (last_of a rest) (a ∷ rest)
+insideOf (a ∷ rest) p = insideFrom p false (lastOf a rest) (a ∷ rest)

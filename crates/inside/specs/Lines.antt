@@ -5,7 +5,7 @@ use Rattle.std.specs.Bool.{xor}
 use Rattle.std.specs.Float.Ieee.{lt}
 use Rattle.sheet.specs.Content.{Point}
 use Rattle.inside.specs.Inside.{insideOf}
-use Rattle.points.specs.Grid.{part, gridPoint, up_from}
+use Rattle.points.specs.Grid.{part, gridPoint, upFrom}
 
 -- ---- the lines 1/32 to 31/32 and a number
 
@@ -51,4 +51,4 @@ inRows k = k % 31 * 31 + k / 31
 -- 961 cells by rows, each xored with whether its grid point is inside the ring
 unfoldable pub flippedBy : List Point → List Bool → List Bool
 unfolding insideOf byRows
-flippedBy ring cells = map (λ (k : ℕ). xor (get_or cells k false) (insideOf ring (byRows k))) (up_from 0 961)
+flippedBy ring cells = map (λ (k : ℕ). xor (get_or cells k false) (insideOf ring (byRows k))) (upFrom 0 961)

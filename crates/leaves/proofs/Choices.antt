@@ -4,7 +4,7 @@
 -- -0 two steps may change places.
 use Rattle.std.proofs.Common.{◌≡◌, Bool, true, false, cond, not, T, sym, refl, ◌∙◌}
 use lib.Ieee.{Float, Format, fits, is_nan, lt, le}
-use Rattle.leaves.proofs.Order.{le-self, lt→le, lt-asym, lt-left, lt-right, lt_trans, minusZero, not-lt→le, same}
+use Rattle.leaves.proofs.Order.{le-self, lt→le, lt-asym, lt-left, lt-right, lt-trans, minusZero, not-lt→le, same}
 use Rattle.leaves.specs.Bounds.{smallerOf, largerOf}
 
 -- a value that the format holds and that is not -0. It may be a NaN.
@@ -37,14 +37,14 @@ swapped false true true yx x y s p q r e = absurd (q tt tt)
 swapped false true false yx x y s p q r e = refl
 swapped false false xy yx x y s p q r e = refl
 
-two_steps : (less : Float → Float → Bool) (x y s : Float) (c : Bool) → cond (less y (cond c x s)) y (cond c x s) ≡ cond c (cond (less y x) y x) (cond (less y s) y s)
-two_steps less x y s true = refl
-two_steps less x y s false = refl
+two-steps : (less : Float → Float → Bool) (x y s : Float) (c : Bool) → cond (less y (cond c x s)) y (cond c x s) ≡ cond c (cond (less y x) y x) (cond (less y s) y s)
+two-steps less x y s true = refl
+two-steps less x y s false = refl
 
 steps-swap : (less : Float → Float → Bool) (x y s : Float) → (T (less x y) → T (less y x) → ⊥) → (T (less x y) → T (less y s) → T (less x s)) → (T (less y x) → T (less x s) → T (less y s))
     → (T (less x s) → T (less y s) → T (not (less x y)) → T (not (less y x)) → x ≡ y)
     → cond (less y (cond (less x s) x s)) y (cond (less x s) x s) ≡ cond (less x (cond (less y s) y s)) x (cond (less y s) y s)
-steps-swap less x y s p q r e = two_steps less x y s (less x s) ∙ swapped (less x s) (less y s) (less x y) (less y x) x y s p q r e ∙ sym (two_steps less y x s (less y s))
+steps-swap less x y s p q r e = two-steps less x y s (less x s) ∙ swapped (less x s) (less y s) (less x y) (less y x) x y s p q r e ∙ sym (two-steps less y x s (less y s))
 
 -- ---- smaller-of
 
@@ -73,7 +73,7 @@ smaller-le-second a b n o = either (λ (x : Float). T (le x b)) (lt b a) b a (λ
 pub smaller-swap : (f : Format) (s a b : Float) → T (fits f s) → Clear f a → Clear f b → smallerOf (smallerOf s a) b ≡ smallerOf (smallerOf s b) a
 unfolding smallerOf
 smaller-swap f s a b h p q =
-    steps-swap lt a b s (lt-asym a b) (lt_trans f a b s p.held q.held h) (lt_trans f b a s q.held p.held h)
+    steps-swap lt a b s (lt-asym a b) (lt-trans f a b s p.held q.held h) (lt-trans f b a s q.held p.held h)
     (λ t u v w. same f a b p.held q.held (lt-left a s t) (lt-left b s u) p.unmarked q.unmarked v w)
 
 -- ---- larger-of
@@ -91,5 +91,5 @@ larger-keeps P a b p q = either P (lt a b) b a (λ t. q) (λ t. p)
 pub larger-swap : (f : Format) (s a b : Float) → T (fits f s) → Clear f a → Clear f b → largerOf (largerOf s a) b ≡ largerOf (largerOf s b) a
 unfolding largerOf
 larger-swap f s a b h p q =
-    steps-swap (λ (x y : Float). lt y x) a b s (lt-asym b a) (λ t u. lt_trans f s b a h q.held p.held u t) (λ t u. lt_trans f s a b h p.held q.held u t)
+    steps-swap (λ (x y : Float). lt y x) a b s (lt-asym b a) (λ t u. lt-trans f s b a h q.held p.held u t) (λ t u. lt-trans f s a b h p.held q.held u t)
     (λ t u v w. same f a b p.held q.held (lt-right s a t) (lt-right s b u) p.unmarked q.unmarked w v)

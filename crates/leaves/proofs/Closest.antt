@@ -40,14 +40,14 @@ near n u pos = go (n / u) (n % u) (compare (n % u * 2) u) (says (n % u * 2) u) (
     up Q r e h l p = record { under = omega (arith, more (Q + 1), next Q); over = omega (arith, twice (Q + 1), next Q); part = inr (omega arith) }
 
     tie : (Q r : ℕ) → Q * u + r ≡ n → r * 2 ≡ u → r < u → (Q ≡ n / u) → (b : ℕ) → Q % 2 ≡ b → Near n u (Q + b)
-    tie Q r e h l p zero x = subst (Near n u) (zero_more Q) (down Q r e (le_of_eq h) p)
+    tie Q r e h l p zero x = subst (Near n u) (zero-more Q) (down Q r e (le_of_eq h) p)
       where
-        zero_more : (a : ℕ) → a ≡ a + 0
-        zero_more a = omega arith
-    tie Q r e h l p (suc b) x = subst (Near n u) (one_more Q b x) (up Q r e (le_of_eq (sym h)) l p)
+        zero-more : (a : ℕ) → a ≡ a + 0
+        zero-more a = omega arith
+    tie Q r e h l p (suc b) x = subst (Near n u) (one-more Q b x) (up Q r e (le_of_eq (sym h)) l p)
       where
-        one_more : (a b : ℕ) → a % 2 ≡ suc b → a + 1 ≡ a + suc b
-        one_more a b x = omega arith
+        one-more : (a b : ℕ) → a % 2 ≡ suc b → a + 1 ≡ a + suc b
+        one-more a b x = omega arith
 
     go : (Q r : ℕ) (o : Ordering) → Says o (r * 2) u → Q * u + r ≡ n → r < u → Q ≡ n / u → Near n u (nearest Q o)
     go Q r Ordering.lt s e l p = down Q r e (le_of_lt s) p
@@ -57,8 +57,8 @@ near n u pos = go (n / u) (n % u) (compare (n % u * 2) u) (says (n % u * 2) u) (
 -- ---- between two neighbouring steps no value fits
 
 -- a fraction whose digits are dropped has all the digits that the format keeps
-all_digits : (f : Format) (w k : ℕ) → size w - prec f ≡ suc k → 2 ^ (prec f - 1) ≤ w / 2 ^ suc k
-all_digits f w k e =
+all-digits : (f : Format) (w k : ℕ) → size w - prec f ≡ suc k → 2 ^ (prec f - 1) ≤ w / 2 ^ suc k
+all-digits f w k e =
     (le-div_iff_mul-le (pow_pos (suc k))).1
     (subst (λ (x : ℕ). x ≤ w) (pow-add 2 (prec f - 1) (suc k)) (size_reaches w (prec f - 1 + suc k) (inside (size w) (prec f) (two f) e)))
   where
@@ -72,7 +72,7 @@ next-step f y w (suc k) h e l =
     let Q = w / 2 ^ suc k in
     let p = 2 ^ suc k in
     let far : 2 ^ (prec f - 1 + suc k) ≤ unitsIn f y =
-    le_trans (le_of_eq (pow-add 2 (prec f - 1) (suc k))) (le_trans (mul-le-mul_right p (all_digits f w k e)) (le_of_lt l)) in
+    le_trans (le_of_eq (pow-add 2 (prec f - 1) (suc k))) (le_trans (mul-le-mul_right p (all-digits f w k e)) (le_of_lt l)) in
     let s = spaced f y (suc k) h far in
     let more : Q < s.0 = lt_of_mul-lt-mul_right p (subst (λ (x : ℕ). Q * p < x) s.1 l) in
     subst (λ (x : ℕ). (Q + 1) * p ≤ x) (sym s.1) (mul-le-mul_right p (add-one-le more))
@@ -94,8 +94,8 @@ module _ (n c p q Q Y : ℕ) (c_pos : 0 < c) (p-pos : 0 < p) (near-n : Near n (c
       after : (x : ℕ) → (x + 1) * (c * p) ≡ x * (c * p) + c * p
       after x = simp (add-mul, one-mul)
 
-  step_back : Y < (Q + 1) * p → Y ≤ Q * p
-  step_back l = le_of_suc-le-suc (lt_of_not-le (λ (g : Q * p < Y). not-le_of_lt l (step g)))
+  step-back : Y < (Q + 1) * p → Y ≤ Q * p
+  step-back l = le_of_suc-le-suc (lt_of_not-le (λ (g : Q * p < Y). not-le_of_lt l (step g)))
 
   below : Y < q * p → (Y + q * p) * c ≤ 2 * n
   below l = elim near-n.part [ inl e ↦ floor (e ∙ part) | inr e ↦ next (e ∙ ap (λ (z : ℕ). z + 1) part) ]
@@ -108,7 +108,7 @@ module _ (n c p q Q Y : ℕ) (c_pos : 0 < c) (p-pos : 0 < p) (near-n : Near n (c
 
       next : q ≡ Q + 1 → (Y + q * p) * c ≤ 2 * n
       next e =
-          let x : Y * c ≤ Q * p * c = mul-le-mul_right c (step_back (subst (λ (z : ℕ). Y < z * p) e l)) in
+          let x : Y * c ≤ Q * p * c = mul-le-mul_right c (step-back (subst (λ (z : ℕ). Y < z * p) e l)) in
           let y : q * (c * p) ≡ Q * (c * p) + c * p = ap (λ (z : ℕ). z * (c * p)) e ∙ add-mul Q 1 (c * p) ∙ ap (λ (z : ℕ). Q * (c * p) + z) (one-mul (c * p)) in
           le_trans (le_of_eq (add-mul Y (q * p) c)) (omega (arith, in-steps q, in-steps Q, near-n.over, mul_assoc 2 q (c * p)))
 
@@ -129,8 +129,8 @@ module _ (n c p q Q Y : ℕ) (c_pos : 0 < c) (p-pos : 0 < p) (near-n : Near n (c
           le_trans (omega (arith, in-steps q)) (le_of_eq (sym (add-mul Y (q * p) c)))
 
 module _ (f : Format) (a c : ℕ) (pos : 0 < c) (y : Float) (h : T (fits f y)) where
-  whole_part : a * 2 ^ low f / (c * 2 ^ drop (prec f) (a * 2 ^ low f) c) ≡ a * 2 ^ low f / c / 2 ^ drop (prec f) (a * 2 ^ low f) c
-  whole_part = sym (div-div-eq-div-mul (a * 2 ^ low f) c (2 ^ drop (prec f) (a * 2 ^ low f) c))
+  whole-part : a * 2 ^ low f / (c * 2 ^ drop (prec f) (a * 2 ^ low f) c) ≡ a * 2 ^ low f / c / 2 ^ drop (prec f) (a * 2 ^ low f) c
+  whole-part = sym (div-div-eq-div-mul (a * 2 ^ low f) c (2 ^ drop (prec f) (a * 2 ^ low f) c))
 
   no-value-between : a * 2 ^ low f / c / 2 ^ drop (prec f) (a * 2 ^ low f) c * 2 ^ drop (prec f) (a * 2 ^ low f) c < unitsIn f y
       → (a * 2 ^ low f / c / 2 ^ drop (prec f) (a * 2 ^ low f) c + 1) * 2 ^ drop (prec f) (a * 2 ^ low f) c ≤ unitsIn f y
@@ -141,14 +141,14 @@ module _ (f : Format) (a c : ℕ) (pos : 0 < c) (y : Float) (h : T (fits f y)) w
   midpoint-below l =
       let n = a * 2 ^ low f in
       let p = 2 ^ drop (prec f) n c in
-      below n c p (kept (prec f) n c) (n / c / p) (unitsIn f y) pos (pow_pos (drop (prec f) n c)) (near n (c * p) (mul-pos pos (pow_pos (drop (prec f) n c)))) whole_part no-value-between l
+      below n c p (kept (prec f) n c) (n / c / p) (unitsIn f y) pos (pow_pos (drop (prec f) n c)) (near n (c * p) (mul-pos pos (pow_pos (drop (prec f) n c)))) whole-part no-value-between l
 
   -- a value above the rounded one: the midpoint is not below the fraction
   pub midpoint-above : grid f a c < unitsIn f y → 2 * (a * 2 ^ low f) ≤ (unitsIn f y + grid f a c) * c
   midpoint-above l =
       let n = a * 2 ^ low f in
       let p = 2 ^ drop (prec f) n c in
-      above n c p (kept (prec f) n c) (n / c / p) (unitsIn f y) pos (pow_pos (drop (prec f) n c)) (near n (c * p) (mul-pos pos (pow_pos (drop (prec f) n c)))) whole_part no-value-between l
+      above n c p (kept (prec f) n c) (n / c / p) (unitsIn f y) pos (pow_pos (drop (prec f) n c)) (near n (c * p) (mul-pos pos (pow_pos (drop (prec f) n c)))) whole-part no-value-between l
 
 -- ---- how far rounding goes
 

@@ -9,7 +9,7 @@ use lib.Pow.{pow-lt}
 use Rattle.leaves.specs.Root.{wholeRoot}
 use Rattle.leaves.specs.Engine.{radicand, digitOf, Started}
 use Rattle.leaves.proofs.Squares.{square-add}
-use Rattle.leaves.proofs.WholeRoots.{root_is}
+use Rattle.leaves.proofs.WholeRoots.{root-is}
 
 pub record Found (n found left place : ℕ) : Type 0 where
   pub small : found + 2 ^ place ≤ 2 ^ 54
@@ -113,7 +113,7 @@ few-places n found left place h = le_of_suc-le-suc (lt_of_not-le (λ (g : 55 ≤
 -- ---- no digit is left to be found
 
 pub finished : (n found left : ℕ) → Found n found left 0 → (wholeRoot n ≡ found) × (n - found * found ≡ left / 2)
-finished n found left h = (root_is n found (record { reached = omega (arith, h.exact); past = h.near }), omega (arith, h.exact))
+finished n found left h = (root-is n found (record { reached = omega (arith, h.exact); past = h.near }), omega (arith, h.exact))
 
 -- ---- a turn of the loop, with the digit of the given place to be found
 

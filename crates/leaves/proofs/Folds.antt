@@ -15,13 +15,13 @@ abbrev pub All : {A : Type 0} → (A → Type 0) → List A → Type 0
 All Q [] = Unit {0}
 All Q (x ∷ xs) = Q x × All Q xs
 
-pub all_of : {A : Type 0} (Q : A → Type 0) → ((a : A) → Q a) → (xs : List A) → All Q xs
-all_of Q h [] = tt
-all_of Q h (x ∷ xs) = (h x, all_of Q h xs)
+pub all-of : {A : Type 0} (Q : A → Type 0) → ((a : A) → Q a) → (xs : List A) → All Q xs
+all-of Q h [] = tt
+all-of Q h (x ∷ xs) = (h x, all-of Q h xs)
 
-pub all_append : {A : Type 0} (Q : A → Type 0) (xs ys : List A) → All Q xs → All Q ys → All Q (xs ++ ys)
-all_append Q [] ys p q = q
-all_append Q (x ∷ xs) ys p q = (p.0, all_append Q xs ys p.1 q)
+pub all-append : {A : Type 0} (Q : A → Type 0) (xs ys : List A) → All Q xs → All Q ys → All Q (xs ++ ys)
+all-append Q [] ys p q = q
+all-append Q (x ∷ xs) ys p q = (p.0, all-append Q xs ys p.1 q)
 
 pub all-perm : {A : Type 0} (Q : A → Type 0) {xs ys : List A} → Permᴰ xs ys → All Q xs → All Q ys
 all-perm Q Permᴰ.nil h = h
@@ -46,9 +46,9 @@ module _ {A S : Type 0} (step : S → A → S) (P : S → Type 0) (Q : A → Typ
   fold-perm swaps (Permᴰ.trans d₁ d₂) h s p = fold-perm swaps d₁ h s p ∙ fold-perm swaps d₂ (all-perm Q d₁ h) s p
 
 -- a state that no step changes
-pub fold_stays : {A S : Type 0} (step : S → A → S) (s : S) → ((a : A) → step s a ≡ s) → (xs : List A) → foldl step s xs ≡ s
-fold_stays step s h [] = refl
-fold_stays {S = S} step s h (x ∷ xs) = ap (λ (z : S). foldl step z xs) (h x) ∙ fold_stays step s h xs
+pub fold-stays : {A S : Type 0} (step : S → A → S) (s : S) → ((a : A) → step s a ≡ s) → (xs : List A) → foldl step s xs ≡ s
+fold-stays step s h [] = refl
+fold-stays {S = S} step s h (x ∷ xs) = ap (λ (z : S). foldl step z xs) (h x) ∙ fold-stays step s h xs
 
 -- what is seen of the state, where each step's can be told from what was seen before it
 pub fold-seen : {A S R : Type 0} (step : S → A → S) (seen : S → R) (told : R → A → R) (P : S → Type 0) → ((s : S) (a : A) → P s → P (step s a)) → ((s : S) (a : A) → P s → seen (step s a) ≡ told (seen s) a)
@@ -59,7 +59,7 @@ fold-seen {R = R} step seen told P keeps tells (x ∷ xs) s p = fold-seen step s
 -- where the steps commute at every state and element
 pub fold-perm-always : {A S : Type 0} (step : S → A → S) → ((s : S) (a b : A) → step (step s a) b ≡ step (step s b) a) → {xs ys : List A} → Permᴰ xs ys → (s : S) → foldl step s xs ≡ foldl step s ys
 fold-perm-always {A} {S} step swaps {xs} d s =
-    fold-perm step (λ (z : S). Unit {0}) (λ (a : A). Unit {0}) (λ z a p q. tt) (λ z a b p q r. swaps z a b) d (all_of (λ (a : A). Unit {0}) (λ a. tt) xs) s tt
+    fold-perm step (λ (z : S). Unit {0}) (λ (a : A). Unit {0}) (λ z a p q. tt) (λ z a b p q r. swaps z a b) d (all-of (λ (a : A). Unit {0}) (λ a. tt) xs) s tt
 
 -- ---- the folds in use
 

@@ -41,8 +41,8 @@ ordered-scaled false true p q k h = omega (arith, add-mul q p k, mul-le-mul_righ
 ordered-scaled true false p q k h = tt
 ordered-scaled true true p q k h = mul-le-mul_right k h
 
-pub none_left : (a d : ℕ) → 0 < d → a * d ≤ 0 → a ≡ 0
-none_left a d D h = elim (eq-zero-or-pos a) [ inl z ↦ z | inr l ↦ omega (arith, mul-pos l D) ]
+pub none-left : (a d : ℕ) → 0 < d → a * d ≤ 0 → a ≡ 0
+none-left a d D h = elim (eq-zero-or-pos a) [ inl z ↦ z | inr l ↦ omega (arith, mul-pos l D) ]
 
 ordered-neg : (s t : Bool) (p q : ℕ) → Ordered s p t q → Ordered (not t) q (not s) p
 ordered-neg false false p q h = h

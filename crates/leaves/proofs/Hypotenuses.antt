@@ -11,7 +11,7 @@ use Rattle.leaves.specs.Bounds.{smallerOf, largerOf}
 use Rattle.leaves.specs.Constants as constants
 use Rattle.leaves.specs.Root.{rootIn, rootOf}
 use Rattle.leaves.specs.Keys.{Key}
-use Rattle.leaves.specs.Hypot.{key_of, hypotOfKey, hypotOf, hypot3Of}
+use Rattle.leaves.specs.Hypot.{keyOf, hypotOfKey, hypotOf, hypot3Of}
 use Rattle.leaves.proofs.Choices.{Clear, smaller-keeps}
 use Rattle.leaves.proofs.Folds.{All}
 use Rattle.leaves.proofs.Signs.{Unsigned, clear-of-sign, add-positive, square-positive}
@@ -20,8 +20,8 @@ use Rattle.leaves.proofs.RootOrder.{root-mono, root-unsigned, smaller-root, larg
 
 -- ---- keys
 
-pub key-is : (a b : Float) → Key (key_of a b)
-unfolding key_of
+pub key-is : (a b : Float) → Key (keyOf a b)
+unfolding keyOf
 key-is a b = record { held = add-fits binary64 (mul binary64 a a) (mul binary64 b b); unsigned = add-positive binary64 (mul binary64 a a) (mul binary64 b b) (square-positive binary64 a) (square-positive binary64 b) }
 
 -- the start of a least: infinity is a key, and its hypotenuse is itself
@@ -46,11 +46,11 @@ smaller-key k l p q = smaller-keeps Key k l p q
 
 -- ---- a hypotenuse is that of a key
 
-pub hypot-by-key : (a b : Float) → hypotOf a b ≡ hypotOfKey (key_of a b)
+pub hypot-by-key : (a b : Float) → hypotOf a b ≡ hypotOfKey (keyOf a b)
 unfolding hypotOf
 hypot-by-key a b = refl
 
-pub hypot3-by-key : (a b c : Float) → hypot3Of a b c ≡ hypotOfKey (key_of (hypotOf a b) c)
+pub hypot3-by-key : (a b c : Float) → hypot3Of a b c ≡ hypotOfKey (keyOf (hypotOf a b) c)
 unfolding hypot3Of hypotOf
 hypot3-by-key a b c = refl
 
@@ -82,7 +82,7 @@ hypot-of-key-is k p = record { held = root-held binary64 k p.held; plain = root-
 -- a hypotenuse fits and has no sign: it is neither -0 nor negative
 pub hypot-is : (a b : Float) → Unsigned binary64 (hypotOf a b)
 unfolding hypotOf
-hypot-is a b = hypot-of-key-is (key_of a b) (key-is a b)
+hypot-is a b = hypot-of-key-is (keyOf a b) (key-is a b)
 
 pub hypot3-is : (a b c : Float) → Unsigned binary64 (hypot3Of a b c)
 unfolding hypot3Of

@@ -13,7 +13,7 @@ use Rattle.leaves.specs.Bounds.{smallerOf, largerOf}
 use Rattle.leaves.proofs.Fractions.{Ordered, le→ordered}
 use Rattle.leaves.proofs.Monotone.{round-ordered}
 use Rattle.leaves.proofs.Order.{within-finite}
-use Rattle.leaves.proofs.Scaling.{div-of-finite, mul-of-finite, size_above}
+use Rattle.leaves.proofs.Scaling.{div-of-finite, mul-of-finite, size-above}
 use Rattle.leaves.proofs.Signs.{neg-round}
 
 abbrev pub Most : ℕ → Float → Type 0
@@ -94,13 +94,13 @@ sum-most f s a t b c n C fit h =
     most-either n (beq s t) (round f s (a + b) c) (cond (ltb a b) (round f t (b - a) c) (round f (s && ltb b a) (a - b) c)) (round-most f s (a + b) c n C fit h)
     (most-either n (ltb a b) (round f t (b - a) c) (round f (s && ltb b a) (a - b) c) (round-most f t (b - a) c n C fit (omega arith)) (round-most f (s && ltb b a) (a - b) c n C fit (omega arith)))
 
-pub add_most : (f : Format) (x y : Float) (n k : ℕ) → n + k ≤ 2 ^ prec f → Most n x → Most k y → Most (n + k) (add f x y)
+pub add-most : (f : Format) (x y : Float) (n k : ℕ) → n + k ≤ 2 ^ prec f → Most n x → Most k y → Most (n + k) (add f x y)
 unfolding add
-add_most f nan y n k fit h g = h
-add_most f (inf s) y n k fit h g = absurd h
-add_most f (fin s m e) nan n k fit h g = g
-add_most f (fin s m e) (inf t) n k fit h g = absurd g
-add_most f (fin s m e) (fin t l d) n k fit h g =
+add-most f nan y n k fit h g = h
+add-most f (inf s) y n k fit h g = absurd h
+add-most f (fin s m e) nan n k fit h g = g
+add-most f (fin s m e) (inf t) n k fit h g = absurd g
+add-most f (fin s m e) (fin t l d) n k fit h g =
     let c = down e * down d in
     sum-most f s (m * up e * down d) t (l * up d * down e) c (n + k) (mul-pos (down_pos e) (down_pos d)) fit
     (parts (m * up e * down d) (l * up d * down e) (n * c) (k * c) (n * down e * down d) (k * down d * down e)
@@ -111,7 +111,7 @@ add_most f (fin s m e) (fin t l d) n k fit h g =
 
 pub sub-most : (f : Format) (x y : Float) (n k : ℕ) → n + k ≤ 2 ^ prec f → Most n x → Most k y → Most (n + k) (sub f x y)
 unfolding sub
-sub-most f x y n k fit h g = add_most f x (neg y) n k fit h (neg-most k y g)
+sub-most f x y n k fit h g = add-most f x (neg y) n k fit h (neg-most k y g)
 
 -- ---- products with, and quotients by, a value above zero
 
@@ -119,19 +119,19 @@ sub-most f x y n k fit h g = add_most f x (neg y) n k fit h (neg-most k y g)
 scaled : (a c i j n k : ℕ) → n * i ≤ k * j → a ≤ n * c → a * i ≤ k * (c * j)
 scaled a c i j n k l h = le_trans (mul-le-mul_right i h) (le_trans (le_of_eq (mul_right_comm n c i)) (le_trans (mul-le-mul_right c l) (le_of_eq (mul_assoc k j c ∙ ap (λ (x : ℕ). k * x) (mul_comm j c)))))
 
-pub mul_most : (f : Format) (x p : Float) (n k : ℕ) → T (positive p) → k ≤ 2 ^ prec f → n * num p ≤ k * den p → Most n x → Most k (mul f x p)
-mul_most f nan p n k P fit l h = absurd h
-mul_most f (inf s) p n k P fit l h = absurd h
-mul_most f (fin s m e) p n k P fit l h =
+pub mul-most : (f : Format) (x p : Float) (n k : ℕ) → T (positive p) → k ≤ 2 ^ prec f → n * num p ≤ k * den p → Most n x → Most k (mul f x p)
+mul-most f nan p n k P fit l h = absurd h
+mul-most f (inf s) p n k P fit l h = absurd h
+mul-most f (fin s m e) p n k P fit l h =
     subst (Most k) (sym (mul-of-finite f p P s m e))
     (round-most f s (m * up e * num p) (down e * den p) k (mul-pos (down_pos e) (den_pos p)) fit (scaled (m * up e) (down e) (num p) (den p) n k l h))
 
-pub div_most : (f : Format) (x p : Float) (n k : ℕ) → T (positive p) → k ≤ 2 ^ prec f → n * den p ≤ k * num p → Most n x → Most k (div f x p)
-div_most f nan p n k P fit l h = absurd h
-div_most f (inf s) p n k P fit l h = absurd h
-div_most f (fin s m e) p n k P fit l h =
+pub div-most : (f : Format) (x p : Float) (n k : ℕ) → T (positive p) → k ≤ 2 ^ prec f → n * den p ≤ k * num p → Most n x → Most k (div f x p)
+div-most f nan p n k P fit l h = absurd h
+div-most f (inf s) p n k P fit l h = absurd h
+div-most f (fin s m e) p n k P fit l h =
     subst (Most k) (sym (div-of-finite f p P s m e))
-    (round-most f s (m * up e * den p) (down e * num p) k (mul-pos (down_pos e) (size_above p P)) fit (scaled (m * up e) (down e) (den p) (num p) n k l h))
+    (round-most f s (m * up e * den p) (down e * num p) k (mul-pos (down_pos e) (size-above p P)) fit (scaled (m * up e) (down e) (den p) (num p) n k l h))
 
 -- ---- the first step of a least and of a greatest
 

@@ -11,9 +11,9 @@ use lib.Ieee.Fits.{down_pos}
 use lib.Ieee.Order.{round_mono}
 use lib.Ieee.Positive.{positive, num, den, den_pos}
 use lib.Ieee.Scale.{finite}
-use Rattle.leaves.proofs.Fractions.{Ordered, Sums, le→ordered, neg-mono, none_left, ordered→le, ordered-scaled, sums-ordered, sums-scaled}
-use Rattle.leaves.proofs.Order.{highest, le_left, le_right, le-self, lowest, neg-finite}
-use Rattle.leaves.proofs.Scaling.{div-of-finite, div-of-inf, mul-of-finite, mul-of-inf, size_above}
+use Rattle.leaves.proofs.Fractions.{Ordered, Sums, le→ordered, neg-mono, none-left, ordered→le, ordered-scaled, sums-ordered, sums-scaled}
+use Rattle.leaves.proofs.Order.{highest, le-left, le-right, le-self, lowest, neg-finite}
+use Rattle.leaves.proofs.Scaling.{div-of-finite, div-of-inf, mul-of-finite, mul-of-inf, size-above}
 use Rattle.leaves.proofs.Signs.{neg-round, round-of-none, round-sign}
 use Rattle.leaves.proofs.Values.{sign}
 
@@ -25,11 +25,11 @@ neg-number nan n = n
 neg-number (inf s) n = tt
 neg-number (fin s m e) n = tt
 
-pub round_number : (f : Format) (s : Bool) (a c : ℕ) → 0 < c → T (not (is_nan (round f s a c)))
-round_number f s a c C = go s
+pub round-number : (f : Format) (s : Bool) (a c : ℕ) → 0 < c → T (not (is_nan (round f s a c)))
+round-number f s a c C = go s
   where
     plain : T (not (is_nan (round f false a c)))
-    plain = le_left (round f false a c) (round f false a c) (round_mono f a c a c C C (le_refl (a * c)))
+    plain = le-left (round f false a c) (round f false a c) (round_mono f a c a c C C (le_refl (a * c)))
 
     go : (s : Bool) → T (not (is_nan (round f s a c)))
     go false = plain
@@ -57,10 +57,10 @@ zeros-level = tt
 pub round-ordered : (f : Format) (s t : Bool) (a c b d : ℕ) → 0 < c → 0 < d → Ordered s (a * d) t (b * c) → T (le (round f s a c) (round f t b d))
 round-ordered f false false a c b d C D h = round_mono f a c b d C D h
 round-ordered f false true a c b d C D h =
-    let p : a ≡ 0 = none_left a d D (omega arith) in
-    let q : b ≡ 0 = none_left b c C (omega arith) in
+    let p : a ≡ 0 = none-left a d D (omega arith) in
+    let q : b ≡ 0 = none-left b c C (omega arith) in
     subst₂ (λ (x y : Float). T (le x y)) (sym (ap (λ (z : ℕ). round f false z c) p ∙ round-of-none f false c C)) (sym (ap (λ (z : ℕ). round f true z d) q ∙ round-of-none f true d D)) zeros-level
-round-ordered f true false a c b d C D h = le-by-signs (round f true a c) (round f false b d) (round_number f true a c C) (round_number f false b d D) (round-sign f true a c) (round-sign f false b d)
+round-ordered f true false a c b d C D h = le-by-signs (round f true a c) (round f false b d) (round-number f true a c C) (round-number f false b d D) (round-sign f true a c) (round-sign f false b d)
 round-ordered f true true a c b d C D h =
     subst₂ (λ (x y : Float). T (le x y)) (sym (neg-round f false a c)) (sym (neg-round f false b d)) (neg-mono (round f false b d) (round f false a c) (round_mono f b d a c D C h))
 
@@ -89,9 +89,9 @@ total f true a false b c = go (ltb a b) (ltb b a) (ltb→lt a b) (nltb→le a b)
     go false true h k j = let l = k tt in record { side = true; size = a - b; is = refl; sums = record { level = omega arith } }
     go false false h k j = let l = k tt in let m = j tt in record { side = false; size = a - b; is = refl; sums = record { level = omega arith } }
 
-add_total : (f : Format) (s : Bool) (m : ℕ) (e : ℤ) (t : Bool) (n : ℕ) (d : ℤ) → Total f (add f (fin s m e) (fin t n d)) s (m * up e * down d) t (n * up d * down e) (down e * down d)
+add-total : (f : Format) (s : Bool) (m : ℕ) (e : ℤ) (t : Bool) (n : ℕ) (d : ℤ) → Total f (add f (fin s m e) (fin t n d)) s (m * up e * down d) t (n * up d * down e) (down e * down d)
 unfolding add
-add_total f s m e t n d = total f s (m * up e * down d) t (n * up d * down e) (down e * down d)
+add-total f s m e t n d = total f s (m * up e * down d) t (n * up d * down e) (down e * down d)
 
 -- a / w ≤ b / x, each over the denominators of both sums, w * y and x * z
 over-both : (s t : Bool) (a b w x y z : ℕ) → Ordered s (a * x) t (b * w) → Ordered s (a * y * (x * z)) t (b * z * (w * y))
@@ -101,8 +101,8 @@ over-both s t a b w x y z h =
 add-finite : (f : Format) (s : Bool) (m : ℕ) (e : ℤ) (t : Bool) (n : ℕ) (d : ℤ) (u : Bool) (k : ℕ) (g : ℤ) (v : Bool) (l : ℕ) (h : ℤ)
     → T (le (fin s m e) (fin t n d)) → T (le (fin u k g) (fin v l h)) → T (le (add f (fin s m e) (fin u k g)) (add f (fin t n d) (fin v l h)))
 add-finite f s m e t n d u k g v l h p q =
-    let i = add_total f s m e u k g in
-    let j = add_total f t n d v l h in
+    let i = add-total f s m e u k g in
+    let j = add-total f t n d v l h in
     subst₂ (λ (x y : Float). T (le x y)) (sym i.is) (sym j.is)
     (round-ordered f i.side j.side i.size (down e * down g) j.size (down d * down h) (mul-pos (down_pos e) (down_pos g)) (mul-pos (down_pos d) (down_pos h))
     (sums-ordered (sums-scaled (down d * down h) i.sums) (sums-scaled (down e * down g) j.sums) (over-both s t (m * up e) (n * up d) (down e) (down d) (down g) (down h) (le→ordered s m e t n d p))
@@ -143,11 +143,11 @@ add-le f (fin s a w) (fin t b e) (fin u i g) (inf true) n o l k = absurd k
 add-le f (fin s a w) (fin t b e) (fin u i g) (inf false) n o l k = highest (add f (fin s a w) (fin u i g)) n
 add-le f (fin s a w) (fin t b e) (fin u i g) (fin v j h) n o l k = add-finite f s a w t b e u i g v j h l k
 
-pub finite_number : (x : Float) → T (finite x) → T (not (is_nan x))
+pub finite-number : (x : Float) → T (finite x) → T (not (is_nan x))
 unfolding is_nan
-finite_number nan h = h
-finite_number (inf s) h = tt
-finite_number (fin s m e) h = tt
+finite-number nan h = h
+finite-number (inf s) h = tt
+finite-number (fin s m e) h = tt
 
 pub add-number : (f : Format) (x c : Float) → T (not (is_nan x)) → T (finite c) → T (not (is_nan (add f x c)))
 unfolding is_nan
@@ -158,8 +158,8 @@ add-number f (inf s) (fin t k d) n h = unfold add in tt
 add-number f (fin s m e) nan n h = absurd h
 add-number f (fin s m e) (inf t) n h = absurd h
 add-number f (fin s m e) (fin t k d) n h =
-    let i = add_total f s m e t k d in
-    subst (λ (x : Float). T (not (is_nan x))) (sym i.is) (round_number f i.side i.size (down e * down d) (mul-pos (down_pos e) (down_pos d)))
+    let i = add-total f s m e t k d in
+    subst (λ (x : Float). T (not (is_nan x))) (sym i.is) (round-number f i.side i.size (down e * down d) (mul-pos (down_pos e) (down_pos d)))
 
 pub add-number-second : (f : Format) (c x : Float) → T (finite c) → T (not (is_nan x)) → T (not (is_nan (add f c x)))
 unfolding is_nan
@@ -171,26 +171,26 @@ add-number-second f (fin s m e) (fin t k d) h n = add-number f (fin s m e) (fin 
 
 -- x and y may be infinite
 pub add-mono : (f : Format) (x y c : Float) → T (finite c) → T (le x y) → T (le (add f x c) (add f y c))
-add-mono f x y c h l = add-le f x y c c (add-number f x c (le_left x y l) h) (add-number f y c (le_right x y l) h) l (le-self c (finite_number c h))
+add-mono f x y c h l = add-le f x y c c (add-number f x c (le-left x y l) h) (add-number f y c (le-right x y l) h) l (le-self c (finite-number c h))
 
 pub add-mono-second : (f : Format) (c x y : Float) → T (finite c) → T (le x y) → T (le (add f c x) (add f c y))
-add-mono-second f c x y h l = add-le f c c x y (add-number-second f c x h (le_left x y l)) (add-number-second f c y h (le_right x y l)) (le-self c (finite_number c h)) l
+add-mono-second f c x y h l = add-le f c c x y (add-number-second f c x h (le-left x y l)) (add-number-second f c y h (le-right x y l)) (le-self c (finite-number c h)) l
 
 pub sub-mono : (f : Format) (x y c : Float) → T (finite c) → T (le x y) → T (le (sub f x c) (sub f y c))
 unfolding sub
 sub-mono f x y c h l = add-mono f x y (neg c) (neg-finite c h) l
 
 -- what is taken off turns the order round
-pub sub_anti : (f : Format) (c x y : Float) → T (finite c) → T (le x y) → T (le (sub f c y) (sub f c x))
+pub sub-anti : (f : Format) (c x y : Float) → T (finite c) → T (le x y) → T (le (sub f c y) (sub f c x))
 unfolding sub
-sub_anti f c x y h l = add-mono-second f c (neg y) (neg x) h (neg-mono x y l)
+sub-anti f c x y h l = add-mono-second f c (neg y) (neg x) h (neg-mono x y l)
 
 -- ---- products with, and quotients by, a value above zero
 
 -- an operation that multiplies by i / j
 module _ (f : Format) (i j : ℕ) (J : 0 < j) (op : Float → Float) (ends : (s : Bool) → op (inf s) ≡ inf s) (is : (s : Bool) (m : ℕ) (e : ℤ) → op (fin s m e) ≡ round f s (m * up e * i) (down e * j)) where
   scaled-number : (s : Bool) (m : ℕ) (e : ℤ) → T (not (is_nan (op (fin s m e))))
-  scaled-number s m e = subst (λ (x : Float). T (not (is_nan x))) (sym (is s m e)) (round_number f s (m * up e * i) (down e * j) (mul-pos (down_pos e) J))
+  scaled-number s m e = subst (λ (x : Float). T (not (is_nan x))) (sym (is s m e)) (round-number f s (m * up e * i) (down e * j) (mul-pos (down_pos e) J))
 
   scaled-mono : (x y : Float) → T (le x y) → T (le (op x) (op y))
   unfolding le is_nan
@@ -207,11 +207,11 @@ module _ (f : Format) (i j : ℕ) (J : 0 < j) (op : Float → Float) (ends : (s 
       (round-ordered f s t (m * up e * i) (down e * j) (n * up d * i) (down d * j) (mul-pos (down_pos e) J) (mul-pos (down_pos d) J)
       (subst₂ (λ (x y : ℕ). Ordered s x t y) (mul-mul-mul_comm (m * up e) (down d) i j) (mul-mul-mul_comm (n * up d) (down e) i j) (ordered-scaled s t (m * up e * down d) (n * up d * down e) (i * j) (le→ordered s m e t n d l))))
 
-pub mul_mono : (f : Format) (x y p : Float) → T (positive p) → T (le x y) → T (le (mul f x p) (mul f y p))
-mul_mono f x y p h l = scaled-mono f (num p) (den p) (den_pos p) (λ (z : Float). mul f z p) (mul-of-inf f p h) (mul-of-finite f p h) x y l
+pub mul-mono : (f : Format) (x y p : Float) → T (positive p) → T (le x y) → T (le (mul f x p) (mul f y p))
+mul-mono f x y p h l = scaled-mono f (num p) (den p) (den_pos p) (λ (z : Float). mul f z p) (mul-of-inf f p h) (mul-of-finite f p h) x y l
 
-pub div_mono : (f : Format) (x y p : Float) → T (positive p) → T (le x y) → T (le (div f x p) (div f y p))
-div_mono f x y p h l = scaled-mono f (den p) (num p) (size_above p h) (λ (z : Float). div f z p) (div-of-inf f p h) (div-of-finite f p h) x y l
+pub div-mono : (f : Format) (x y p : Float) → T (positive p) → T (le x y) → T (le (div f x p) (div f y p))
+div-mono f x y p h l = scaled-mono f (den p) (num p) (size-above p h) (λ (z : Float). div f z p) (div-of-inf f p h) (div-of-finite f p h) x y l
 
 -- ---- squares, of values without a sign
 
@@ -233,6 +233,6 @@ square-mono f (inf false) (fin t n d) p q l = absurd l
 square-mono f (fin true m e) y p q l = absurd (true≢false p)
 square-mono f (fin false m e) nan p q l = absurd l
 square-mono f (fin false m e) (inf true) p q l = absurd l
-square-mono f (fin false m e) (inf false) p q l = highest (mul f (fin false m e) (fin false m e)) (round_number f false (m * up e * (m * up e)) (down e * down e) (mul-pos (down_pos e) (down_pos e)))
+square-mono f (fin false m e) (inf false) p q l = highest (mul f (fin false m e) (fin false m e)) (round-number f false (m * up e * (m * up e)) (down e * down e) (mul-pos (down_pos e) (down_pos e)))
 square-mono f (fin false m e) (fin true n d) p q l = absurd (true≢false q)
 square-mono f (fin false m e) (fin false n d) p q l = square-finite f m e n d l

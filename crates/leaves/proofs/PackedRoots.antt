@@ -12,7 +12,7 @@ use Rattle.leaves.specs.Root.{wholeRoot, rounded, rootIn}
 use Rattle.leaves.specs.Engine.{RootOfFraction}
 use Rattle.leaves.proofs.Squares.{square-lt, square-odd}
 use Rattle.leaves.proofs.WholeRoots.{is-root}
-use Rattle.leaves.proofs.Values.{units-of-value, units_small, same-value}
+use Rattle.leaves.proofs.Values.{units-of-value, units-small, same-value}
 use Rattle.leaves.proofs.Rounding.{root-rounds}
 use Rattle.leaves.proofs.Packing.{prec-hid, packed}
 
@@ -24,14 +24,14 @@ rounded-fits f n = round-fits f false _ _
 none : (d : ℤ) (A g : ℕ) → 0 < A → zero * up d * 2 ^ g ≡ A * down d → ⊥
 none d A g p e = lt_irrefl 0 (subst (λ (x : ℕ). 0 < x) (sym e ∙ ap (λ (x : ℕ). x * 2 ^ g) (zero-mul (up d)) ∙ zero-mul (2 ^ g)) (mul-pos p (down_pos d)))
 
-at_least : (f : Format) (r : ℕ) → 2 ^ prec f ≤ r → hid f ≤ (r + 1) / 2
-at_least f r h = go (2 ^ prec f) (hid f) (prec-hid f) h
+at-least : (f : Format) (r : ℕ) → 2 ^ prec f ≤ r → hid f ≤ (r + 1) / 2
+at-least f r h = go (2 ^ prec f) (hid f) (prec-hid f) h
   where
     go : (a b : ℕ) → a ≡ b * 2 → a ≤ r → b ≤ (r + 1) / 2
     go a b e l = omega arith
 
-at_most : (f : Format) (r : ℕ) → r + 1 < 2 ^ suc (prec f) → (r + 1) / 2 < 2 * hid f
-at_most f r h = go (2 ^ suc (prec f)) (2 ^ prec f) (hid f) (pow-suc 2 (prec f)) (prec-hid f) h
+at-most : (f : Format) (r : ℕ) → r + 1 < 2 ^ suc (prec f) → (r + 1) / 2 < 2 * hid f
+at-most f r h = go (2 ^ suc (prec f)) (2 ^ prec f) (hid f) (pow-suc 2 (prec f)) (prec-hid f) h
   where
     go : (c a b : ℕ) → c ≡ a * 2 → a ≡ b * 2 → r + 1 < c → (r + 1) / 2 < 2 * b
     go c a b e d l = omega arith
@@ -59,8 +59,8 @@ module _ (f : Format) (x : Float) (significand h j g : ℕ) (e : 2 * (low f + 1)
       let S = significand * 2 ^ j in
       let r = wholeRoot S in
       let q = (r + 1) / 2 in
-      let p = packed f h q (at_least f r lo) (at_most f r hi) small in
-      let fine : q * 2 ^ h < overflow f = subst (λ (z : ℕ). z < overflow f) (units-of-value f (of_bits f (h * hid f + q)) false (q * 2 ^ h) p) (units_small f (of_bits f (h * hid f + q)) (of_bits-fits f (h * hid f + q))) in
+      let p = packed f h q (at-least f r lo) (at-most f r hi) small in
+      let fine : q * 2 ^ h < overflow f = subst (λ (z : ℕ). z < overflow f) (units-of-value f (of_bits f (h * hid f + q)) false (q * 2 ^ h) p) (units-small f (of_bits f (h * hid f + q)) (of_bits-fits f (h * hid f + q))) in
       let is : rootIn f x ≡ rounded f (S * (2 ^ h * 2 ^ h)) = root-of-value f x (significand * 2 ^ (2 * h)) g j (mul-pos some (pow_pos (2 * h))) v e ∙ ap (rounded f) swap in
       same-value f (of_bits f (h * hid f + q)) (rounded f (S * (2 ^ h * 2 ^ h))) false (q * 2 ^ h) (2 ^ low f) (pow_pos (low f)) (of_bits-fits f (h * hid f + q)) (rounded-fits f (S * (2 ^ h * 2 ^ h)))
       p
@@ -81,7 +81,7 @@ module _ (f : Format) (x : Float) (significand h j g : ℕ) (e : 2 * (low f + 1)
 pub record FirstDigits (significand : ℕ) : Type 0 where
   pub enough : 2 ^ 53 ≤ wholeRoot (significand * 2 ^ 54)
   pub few : wholeRoot (significand * 2 ^ 54) + 1 < 2 ^ 54
-  pub no_tie : wholeRoot (significand * 2 ^ 54) % 2 ≡ 1 → wholeRoot (significand * 2 ^ 54) * wholeRoot (significand * 2 ^ 54) ≡ significand * 2 ^ 54 → ⊥
+  pub no-tie : wholeRoot (significand * 2 ^ 54) % 2 ≡ 1 → wholeRoot (significand * 2 ^ 54) * wholeRoot (significand * 2 ^ 54) ≡ significand * 2 ^ 54 → ⊥
 
 pub first-digits : (significand : ℕ) → 2 ^ 52 ≤ significand → significand < 2 ^ 54 - 1 → FirstDigits significand
 first-digits s lo hi =
@@ -91,7 +91,7 @@ first-digits s lo hi =
     let high : n < (2 ^ 54 - 1) * (2 ^ 54 - 1) = omega arith in
     let a : 2 ^ 53 < wholeRoot n + 1 = square-lt (lt_of_le_of_lt low r.past) in
     let b : wholeRoot n < 2 ^ 54 - 1 = square-lt (lt_of_le_of_lt r.reached high) in
-    record { enough = omega arith; few = omega arith; no_tie = λ o e. odd-square (wholeRoot n) s o e }
+    record { enough = omega arith; few = omega arith; no-tie = λ o e. odd-square (wholeRoot n) s o e }
   where
     odd-square : (r s : ℕ) → r % 2 ≡ 1 → r * r ≡ s * 2 ^ 54 → ⊥
     odd-square r s o e =

@@ -19,12 +19,12 @@ prec-hid f = ap (λ (x : ℕ). 2 ^ x) (sym (go (prec f) (two f))) ∙ pow-suc 2 
 
 -- ---- from fields to a value
 
-ne_eqb : (a b : ℕ) → (a ≡ b → ⊥) → eqb a b ≡ false
-ne_eqb a b h = is_false (eqb a b) (not_T (eqb a b) (λ t. h (eqb→eq a b t)))
+ne-eqb : (a b : ℕ) → (a ≡ b → ⊥) → eqb a b ≡ false
+ne-eqb a b h = is_false (eqb a b) (not_T (eqb a b) (λ t. h (eqb→eq a b t)))
 
 normal-fields : (f : Format) (s : Bool) (x t : ℕ) → suc x < ones f → of_fields f s (suc x) t ≡ odd (prec f) s (hid f + t) x (low f)
 unfolding of_fields
-normal-fields f s x t h = ap (λ (b : Bool). cond b (cond (eqb t 0) (inf s) nan) (odd (prec f) s (hid f + t) x (low f))) (ne_eqb (suc x) (ones f) (λ e. lt_irrefl (ones f) (subst (λ (z : ℕ). z < ones f) e h)))
+normal-fields f s x t h = ap (λ (b : Bool). cond b (cond (eqb t 0) (inf s) nan) (odd (prec f) s (hid f + t) x (low f))) (ne-eqb (suc x) (ones f) (λ e. lt_irrefl (ones f) (subst (λ (z : ℕ). z < ones f) e h)))
 
 fields-of : (f : Format) (x t : ℕ) → t < hid f → x < suc (ones f) → of_bits f (x * hid f + t) ≡ of_fields f false x t
 unfolding of_bits
@@ -91,12 +91,12 @@ signed f s (suc x) t h = split (eqb (suc x) (ones f)) (eqb t 0) h
     split false c h = value-sign (odd (prec f) s (hid f + t) x (low f)) s ((hid f + t) * 2 ^ x) (2 ^ low f) (odd_sign (prec f) s (hid f + t) x (low f)) h
 
 -- what is greater than +0 is above zero
-pub above_zero : (x : Float) → T (lt (fin false 0 (pos 0)) x) → T (above x)
+pub above-zero : (x : Float) → T (lt (fin false 0 (pos 0)) x) → T (above x)
 unfolding lt
-above_zero nan h = h
-above_zero (inf s) h = h
-above_zero (fin true m e) h = h
-above_zero (fin false m e) h = lt→ltb 0 m (first_pos m (up e) (first_pos (m * up e) 1 (lt_of_le_of_lt zero-le (ltb→lt (0 * 1 * down e) (m * up e * 1) h))))
+above-zero nan h = h
+above-zero (inf s) h = h
+above-zero (fin true m e) h = h
+above-zero (fin false m e) h = lt→ltb 0 m (first_pos m (up e) (first_pos (m * up e) 1 (lt_of_le_of_lt zero-le (ltb→lt (0 * 1 * down e) (m * up e * 1) h))))
 
 -- what the exponent's field and the digits below it say of a value above zero
 pub record Unpacked (f : Format) (y : Float) (field t : ℕ) : Type 0 where
@@ -116,20 +116,20 @@ unfolding of_fields
 of-fields f zero t h =
     let v : HasValue (odd (prec f) false t 0 (low f)) false t (2 ^ low f) = subst (λ (z : ℕ). HasValue (odd (prec f) false t 0 (low f)) false z (2 ^ low f)) (mul-one t) (odd_sign (prec f) false t 0 (low f)) in
     record {
-      infinite = λ e. absurd (not_none (emax f) e);
+      infinite = λ e. absurd (not-none (emax f) e);
       subnormal = λ e. (value-above (odd (prec f) false t 0 (low f)) t (2 ^ low f) v h (pow_pos (low f)), v);
       normal = λ p q. absurd (q refl);
     }
   where
-    not_none : (e : ℕ) → ◌≡◌ {A = ℕ} 0 (2 * e + 1) → ⊥
-    not_none e h = omega arith
+    not-none : (e : ℕ) → ◌≡◌ {A = ℕ} 0 (2 * e + 1) → ⊥
+    not-none e h = omega arith
 of-fields f (suc x) t h = split (eqb (suc x) (ones f)) (eqb t 0) (eqb→eq (suc x) (ones f)) (λ (e : suc x ≡ ones f). subst (λ (z : ℕ). T (eqb (suc x) z)) e (eqb_refl (suc x))) h
   where
     no-suc : (x : ℕ) → suc x ≡ 0 → ⊥
     no-suc x e = omega arith
 
-    one_less : (x : ℕ) → x ≡ suc x - 1
-    one_less x = omega arith
+    one-less : (x : ℕ) → x ≡ suc x - 1
+    one-less x = omega arith
 
     split : (b c : Bool) → (T b → suc x ≡ ones f) → (suc x ≡ ones f → T b) → T (above (cond b (cond c (inf false) nan) (odd (prec f) false (hid f + t) x (low f))))
         → Unpacked f (cond b (cond c (inf false) nan) (odd (prec f) false (hid f + t) x (low f))) (suc x) t
@@ -138,12 +138,12 @@ of-fields f (suc x) t h = split (eqb (suc x) (ones f)) (eqb t 0) (eqb→eq (suc 
     split false c p q h = record {
       infinite = λ e. absurd (q e);
       subnormal = λ e. absurd (no-suc x e);
-      normal = λ n z. subst (λ (k : ℕ). HasValue (odd (prec f) false (hid f + t) x (low f)) false ((hid f + t) * 2 ^ k) (2 ^ low f)) (one_less x) (odd_sign (prec f) false (hid f + t) x (low f));
+      normal = λ n z. subst (λ (k : ℕ). HasValue (odd (prec f) false (hid f + t) x (low f)) false ((hid f + t) * 2 ^ k) (2 ^ low f)) (one-less x) (odd_sign (prec f) false (hid f + t) x (low f));
     }
 
-bits_of : (f : Format) (b : ℕ) → T (above (of_bits f b)) → (b < top f) × Unpacked f (of_bits f b) (b / hid f) (b % hid f)
+bits-of : (f : Format) (b : ℕ) → T (above (of_bits f b)) → (b < top f) × Unpacked f (of_bits f b) (b / hid f) (b % hid f)
 unfolding of_bits
-bits_of f b h =
+bits-of f b h =
     let s : leb (top f) b ≡ false = signed f (leb (top f) b) (b % top f / hid f) (b % hid f) h in
     let small : b < top f = nleb→lt (top f) b (subst (λ (z : Bool). T (not z)) (sym s) tt) in
     let e : of_fields f (leb (top f) b) (b % top f / hid f) (b % hid f) ≡ of_fields f false (b / hid f) (b % hid f) =
@@ -153,4 +153,4 @@ bits_of f b h =
 pub unpacked : (f : Format) (x : Float) → T (fits f x) → T (above x) → (to_bits f x < top f) × Unpacked f x (to_bits f x / hid f) (to_bits f x % hid f)
 unpacked f x fit h =
     let e = of_bits-to_bits f x fit in
-    subst (λ (y : Float). (to_bits f x < top f) × Unpacked f y (to_bits f x / hid f) (to_bits f x % hid f)) e (bits_of f (to_bits f x) (subst (λ (y : Float). T (above y)) (sym e) h))
+    subst (λ (y : Float). (to_bits f x < top f) × Unpacked f y (to_bits f x / hid f) (to_bits f x % hid f)) e (bits-of f (to_bits f x) (subst (λ (y : Float). T (above y)) (sym e) h))

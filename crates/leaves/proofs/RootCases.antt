@@ -12,8 +12,8 @@ zero-not-above u d h = no (ltb→lt 0 (0 * u * 1 + 0 * 1 * d) h)
     no : 0 < 0 * u * 1 + 0 * 1 * d → ⊥
     no k = omega arith
 
-pub none_below : (a d : ℕ) → T (ltb a (0 * 1 * d)) → ⊥
-none_below a d h = no (ltb→lt a (0 * 1 * d) h)
+pub none-below : (a d : ℕ) → T (ltb a (0 * 1 * d)) → ⊥
+none-below a d h = no (ltb→lt a (0 * 1 * d) h)
   where
     no : a < 0 * 1 * d → ⊥
     no k = omega arith
@@ -34,8 +34,8 @@ root-negative f (inf true) h = refl
 root-negative f (inf false) h = absurd h
 root-negative f (fin true zero e) h = absurd (zero-not-above (up e) (down e) h)
 root-negative f (fin true (suc m) e) h = refl
-root-negative f (fin false zero e) h = absurd (none_below (0 * up e * 1) (down e) h)
-root-negative f (fin false (suc m) e) h = absurd (none_below (suc m * up e * 1) (down e) h)
+root-negative f (fin false zero e) h = absurd (none-below (0 * up e * 1) (down e) h)
+root-negative f (fin false (suc m) e) h = absurd (none-below (suc m * up e * 1) (down e) h)
 
 pub root-itself : (f : Format) (x : Float) → T (not (lt (fin false 0 (pos 0)) x)) → T (not (lt x (fin false 0 (pos 0)))) → rootIn f x ≡ x
 unfolding rootIn lt

@@ -10,13 +10,13 @@ use lib.Ieee.Positive.{positive}
 use lib.Ieee.Scale.{overflow}
 use Rattle.leaves.specs.Bounds.{smallerOf, largerOf}
 use Rattle.leaves.specs.Root.{rounded, rootIn}
-use Rattle.leaves.proofs.Values.{unitsIn, sign, zero-value, zero-units, units-zero, units_small}
+use Rattle.leaves.proofs.Values.{unitsIn, sign, zero-value, zero-units, units-zero, units-small}
 use Rattle.leaves.proofs.WholeRoots.{halves, halves-mono}
 use Rattle.leaves.proofs.Rounding.{rounded-is}
-use Rattle.leaves.proofs.RootCases.{none_below}
+use Rattle.leaves.proofs.RootCases.{none-below}
 use Rattle.leaves.proofs.Roots.{rootUnits, root-value, root-held, root-is-rounded, some-units}
 use Rattle.leaves.proofs.Signs.{round-sign, clear-of-sign}
-use Rattle.leaves.proofs.Order.{lt-left, lt-right, le_left, le_right, le→place, le→not-lt, lt→le, not-lt→le, same}
+use Rattle.leaves.proofs.Order.{lt-left, lt-right, le-left, le-right, le→place, le→not-lt, lt→le, not-lt→le, same}
 
 -- ---- the order
 
@@ -79,7 +79,7 @@ root-mono f (fin false m e) nan p q s h = absurd h
 root-mono f (fin false m e) (inf true) p q s h = absurd h
 root-mono f (fin false m e) (inf false) p q s h = let k = root-units f m e p in unfold rootIn in finite-le-inf (rootIn f (fin false m e)) k.0 (2 ^ low f) k.1
 root-mono f (fin false m e) (fin true n d) p q s h =
-    let z = both-none (overflow f) (unitsIn f (fin false m e)) (unitsIn f (fin true n d)) (units_small f (fin true n d) q) (le→place f (fin false m e) (fin true n d) p q h) in
+    let z = both-none (overflow f) (unitsIn f (fin false m e)) (unitsIn f (fin true n d)) (units-small f (fin true n d) q) (le→place f (fin false m e) (fin true n d) p q h) in
     subst (λ (w : Float). T (le w (rootIn f (fin true n d)))) (sym (root-of-zero f false m e p z.0))
     (subst (λ (w : Float). T (le (fin false m e) w)) (sym (root-of-zero f true n d q z.1)) h)
 root-mono f (fin false m e) (fin false n d) p q s h =
@@ -104,7 +104,7 @@ unfolding lt
 unsigned-not-negative nan s h = h
 unsigned-not-negative (inf t) s h = true≢false (sym (is_true t h) ∙ s)
 unsigned-not-negative (fin true m e) s h = true≢false s
-unsigned-not-negative (fin false m e) s h = none_below (m * up e * 1) (down e) h
+unsigned-not-negative (fin false m e) s h = none-below (m * up e * 1) (down e) h
 
 -- ---- two roots of values without a sign
 
@@ -131,7 +131,7 @@ module _ (f : Format) (a b : Float) (p : T (fits f a)) (q : T (fits f b)) (s : s
   same-roots : T (lt b a) → T (not (lt (rootIn f b) (rootIn f a))) → rootIn f a ≡ rootIn f b
   same-roots l n =
       let h = root-mono f b a q p t (lt→le b a l) in
-      same f (rootIn f a) (rootIn f b) (root-held f a p) (root-held f b q) (le_right (rootIn f b) (rootIn f a) h) (le_left (rootIn f b) (rootIn f a) h)
+      same f (rootIn f a) (rootIn f b) (root-held f a p) (root-held f b q) (le-right (rootIn f b) (rootIn f a) h) (le-left (rootIn f b) (rootIn f a) h)
       (clear-of-sign (rootIn f a) (root-unsigned f a s)) (clear-of-sign (rootIn f b) (root-unsigned f b t)) (le→not-lt (rootIn f b) (rootIn f a) h) n
 
   pub smaller-root : smallerOf (rootIn f a) (rootIn f b) ≡ rootIn f (smallerOf a b)

@@ -16,11 +16,11 @@ use lib.Ieee.Scale.{finite, grid, overflow, round_val}
 use Rattle.leaves.specs.Root.{wholeRoot, sticky, rounded, squareUnits, rootIn, rootOf}
 use Rattle.leaves.specs.Nearest.{unitsIn, fourTimes, Nearer, NearestRoot}
 use Rattle.leaves.proofs.Squares.{PowerSquare, square-suc, square-twice, square-mono, square-lt, power-square}
-use Rattle.leaves.proofs.WholeRoots.{below_next, is-root, root_is, halves, sticky-cases, sticky-le}
+use Rattle.leaves.proofs.WholeRoots.{below-next, is-root, root-is, halves, sticky-cases, sticky-le}
 use Rattle.leaves.proofs.Rounding.{rounded-is, quarter}
 use Rattle.leaves.proofs.Closest.{midpoint-below, midpoint-above, grid-small, grid-some}
 use Rattle.leaves.proofs.PackedRoots.{rounded-fits, root-of-value}
-use Rattle.leaves.proofs.Values.{zero-units, held as in-format, odd, same_units, shifted, own-units, units-of-value, units_small}
+use Rattle.leaves.proofs.Values.{zero-units, held as in-format, odd, same-units, shifted, own-units, units-of-value, units-small}
 use Rattle.leaves.proofs.Order.{lt→place, place→lt}
 
 -- ---- the root of n, rounded, in units
@@ -64,8 +64,8 @@ module _ (f : Format) (X : ℕ) (small : X < overflow f) where
       subst (λ (z : Float). HasValue z false (grid f P (2 ^ (low f + 2))) (2 ^ low f)) (sym (rounded-is f (X * 2 ^ (low f + 2)))) (round_val f P (2 ^ (low f + 2)) in-range)
 
   -- a sum that is at most the fraction's double has a square that is at most n, and the other way round
-  sum_below : (S : ℕ) → S * 2 ^ (low f + 2) ≤ 2 * (halves (X * 2 ^ (low f + 2)) * 2 ^ low f) → S * S ≤ 4 * (X * 2 ^ low f)
-  sum_below S h =
+  sum-below : (S : ℕ) → S * 2 ^ (low f + 2) ≤ 2 * (halves (X * 2 ^ (low f + 2)) * 2 ^ low f) → S * S ≤ 4 * (X * 2 ^ low f)
+  sum-below S h =
       let n = X * 2 ^ (low f + 2) in
       let x : S * 4 * 2 ^ low f ≤ 2 * halves n * 2 ^ low f =
       le_trans (le_of_eq (mul_right_comm S 4 (2 ^ low f) ∙ mul_assoc S (2 ^ low f) 4 ∙ ap (λ (z : ℕ). S * z) (sym (pow-add 2 (low f) 2)))) (le_trans h (le_of_eq (sym (mul_assoc 2 (halves n) (2 ^ low f))))) in
@@ -95,9 +95,9 @@ module _ (f : Format) (X : ℕ) (small : X < overflow f) where
 
 -- ---- no value is nearer
 
-zero_held : (f : Format) → T (fits f (fin false zero (pos 0)))
+zero-held : (f : Format) → T (fits f (fin false zero (pos 0)))
 unfolding fits
-zero_held f = tt
+zero-held f = tt
 
 cancel : (o a b : ℕ) → o + a < o + b → a < b
 cancel o a b h = omega arith
@@ -118,15 +118,15 @@ module _ (f : Format) (x : Float) (held : T (fits f x)) where
   -- a value of Y units below the root, or above it
   sum-with-less : (y : Float) → T (fits f y) → unitsIn f y < rootUnits f x → (unitsIn f y + rootUnits f x) * (unitsIn f y + rootUnits f x) ≤ fourTimes f x
   sum-with-less y h l =
-      sum_below f (unitsIn f x) (units_small f x held) (unitsIn f y + rootUnits f x) (midpoint-below f (halves (unitsIn f x * 2 ^ (low f + 2))) (2 ^ (low f + 2)) (pow_pos (low f + 2)) y h l)
+      sum-below f (unitsIn f x) (units-small f x held) (unitsIn f y + rootUnits f x) (midpoint-below f (halves (unitsIn f x * 2 ^ (low f + 2))) (2 ^ (low f + 2)) (pow_pos (low f + 2)) y h l)
 
   sum-with-more : (y : Float) → T (fits f y) → rootUnits f x < unitsIn f y → fourTimes f x ≤ (unitsIn f y + rootUnits f x) * (unitsIn f y + rootUnits f x)
   sum-with-more y h l =
-      sum-above f (unitsIn f x) (units_small f x held) (unitsIn f y + rootUnits f x) (midpoint-above f (halves (unitsIn f x * 2 ^ (low f + 2))) (2 ^ (low f + 2)) (pow_pos (low f + 2)) y h l)
+      sum-above f (unitsIn f x) (units-small f x held) (unitsIn f y + rootUnits f x) (midpoint-above f (halves (unitsIn f x * 2 ^ (low f + 2))) (2 ^ (low f + 2)) (pow_pos (low f + 2)) y h l)
 
   -- the root's own square is at most four times x
-  own_square : rootUnits f x * rootUnits f x ≤ fourTimes f x
-  own_square = go (rootUnits f x) (subst (λ (z : ℕ). z < rootUnits f x → (z + rootUnits f x) * (z + rootUnits f x) ≤ fourTimes f x) (zero-units f false (pos 0)) (sum-with-less (fin false zero (pos 0)) (zero_held f)))
+  own-square : rootUnits f x * rootUnits f x ≤ fourTimes f x
+  own-square = go (rootUnits f x) (subst (λ (z : ℕ). z < rootUnits f x → (z + rootUnits f x) * (z + rootUnits f x) ≤ fourTimes f x) (zero-units f false (pos 0)) (sum-with-less (fin false zero (pos 0)) (zero-held f)))
     where
       go : (g : ℕ) → (0 < g → (0 + g) * (0 + g) ≤ fourTimes f x) → g * g ≤ fourTimes f x
       go zero h = zero-le
@@ -150,7 +150,7 @@ module _ (f : Format) (x : Float) (held : T (fits f x)) where
   none-nearer-than (fin false m e) (fin true k d) v p q r (inl c) =
       let u = units-of-value f (fin false m e) false (rootUnits f x) v in
       let Y = unitsIn f (fin true k d) in
-      not-le_of_lt c.1 (le_trans (square-mono (sub-le (unitsIn f (fin false m e)) Y)) (subst (λ (z : ℕ). z * z ≤ fourTimes f x) (sym u) own_square))
+      not-le_of_lt c.1 (le_trans (square-mono (sub-le (unitsIn f (fin false m e)) Y)) (subst (λ (z : ℕ). z * z ≤ fourTimes f x) (sym u) own-square))
   none-nearer-than (fin false m e) (fin true k d) v p q r (inr c) = absurd (unsigned-not-less m k e d c.0)
 
 -- ---- the theorem
@@ -184,7 +184,7 @@ root-value f (inf s) held p = absurd p
 root-value f (fin true m e) held p = absurd p
 root-value f (fin false m e) held p =
     let x = fin false m e in
-    subst (λ (z : Float). HasValue z false (rootUnits f x) (2 ^ low f)) (sym (root-is-rounded f x held p)) (value f (unitsIn f x) (units_small f x held))
+    subst (λ (z : Float). HasValue z false (rootUnits f x) (2 ^ low f)) (sym (root-is-rounded f x held p)) (value f (unitsIn f x) (units-small f x held))
 
 pub root-held : (f : Format) (x : Float) → T (fits f x) → T (fits f (rootIn f x))
 unfolding rootIn
@@ -226,7 +226,7 @@ few-digits f r t k e few small =
 
 exact-halves : (n r : ℕ) → r * r ≡ n → (wholeRoot n ≡ r) × (halves n ≡ 2 * r)
 exact-halves n r sq =
-    let e : wholeRoot n ≡ r = root_is n r (record { reached = le_of_eq sq; past = subst (λ (z : ℕ). z < (r + 1) * (r + 1)) sq (more r) }) in (
+    let e : wholeRoot n ≡ r = root-is n r (record { reached = le_of_eq sq; past = subst (λ (z : ℕ). z < (r + 1) * (r + 1)) sq (more r) }) in (
       e,
       elim (sticky-cases n) [
         | inl c ↦ omega (arith, c.1)
@@ -247,11 +247,11 @@ exact-value f X odd i r small x o few sq =
     subst (λ (z : Float). HasValue z false (2 * r) (2 ^ (low f + 2))) (sym (rounded-is f n ∙ ap (λ (z : ℕ). round f false z (2 ^ (low f + 2))) h.1))
     (go (power-square (i + (low f + 2)) odd r o s) (subst (λ (z : ℕ). z < 2 ^ (low f + emax f)) h.0 (root-small f X small)))
   where
-    no_less : (a b : ℕ) → a + (b + 2) ≡ 0 + 0 → ⊥
-    no_less a b h = omega arith
+    no-less : (a b : ℕ) → a + (b + 2) ≡ 0 + 0 → ⊥
+    no-less a b h = omega arith
 
     with-power : (t l : ℕ) → r ≡ t * 2 ^ l → i + (low f + 2) ≡ l + l → t * t ≡ odd → r < 2 ^ (low f + emax f) → HasValue (round f false (2 * r) (2 ^ (low f + 2))) false (2 * r) (2 ^ (low f + 2))
-    with-power t zero e d q b = absurd (no_less i (low f) d)
+    with-power t zero e d q b = absurd (no-less i (low f) d)
     with-power t (suc k) e d q b = few-digits f r t k e (lt_of_le_of_lt (le_trans (at-most-square t) (le_of_eq q)) few) b
 
     go : PowerSquare r odd (i + (low f + 2)) → r < 2 ^ (low f + emax f) → HasValue (round f false (2 * r) (2 ^ (low f + 2))) false (2 * r) (2 ^ (low f + 2))
@@ -268,7 +268,7 @@ exact-units f (fin false (suc m) e) held p r sq =
     let X = unitsIn f x in
     let j = shifted f false (suc m) e held in
     let whole : X ≡ suc m * 2 ^ j.0 = units-of-value f x false (suc m * 2 ^ j.0) (refl, j.1) in
-    halved (rounded f (X * 2 ^ (low f + 2))) (exact-value f X (suc m) j.0 r (units_small f x held) whole (odd f false m e held) (in-format f false (suc m) e held).digits (sq ∙ sym (four f X (units_small f x held)))) (value f X (units_small f x held))
+    halved (rounded f (X * 2 ^ (low f + 2))) (exact-value f X (suc m) j.0 r (units-small f x held) whole (odd f false m e held) (in-format f false (suc m) e held).digits (sq ∙ sym (four f X (units-small f x held)))) (value f X (units-small f x held))
   where
     half : (r G : ℕ) → 2 * r ≡ 4 * G → 2 * G ≡ r
     half r G h = omega arith
@@ -288,7 +288,7 @@ root-some : (f : Format) (x : Float) → T (fits f x) → T (positive x) → 0 <
 root-some f x held p =
     let X = unitsIn f x in
     let n = X * 2 ^ (low f + 2) in
-    grid-some f (halves n) (2 ^ (low f + 2)) (pow_pos (low f + 2)) (subst (λ (z : ℕ). 0 < z) (sym (quarter f (halves n))) (enough (wholeRoot n) (sticky n) (two-at-least n (large X (2 ^ low f) (some-units f x held p) (pow_pos (low f)) (four f X (units_small f x held))))))
+    grid-some f (halves n) (2 ^ (low f + 2)) (pow_pos (low f + 2)) (subst (λ (z : ℕ). 0 < z) (sym (quarter f (halves n))) (enough (wholeRoot n) (sticky n) (two-at-least n (large X (2 ^ low f) (some-units f x held p) (pow_pos (low f)) (four f X (units-small f x held))))))
   where
     enough : (r s : ℕ) → 2 ≤ r → 0 < (2 * r + s) / 4
     enough r s h = omega arith
@@ -297,18 +297,18 @@ root-some f x held p =
     large X l a b e = le_trans (mul-le-mul_left 4 (mul-pos a b)) (le_of_eq (sym e))
 
     two-at-least : (n : ℕ) → 4 ≤ n → 2 ≤ wholeRoot n
-    two-at-least n h = below_next 2 (wholeRoot n) (square-lt (lt_of_le_of_lt h (is-root n).past))
+    two-at-least n h = below-next 2 (wholeRoot n) (square-lt (lt_of_le_of_lt h (is-root n).past))
 
 -- the root's own square is below four times x: at equality the root would be twice itself
 own-square-below : (f : Format) (x : Float) → T (fits f x) → T (positive x) → rootUnits f x * rootUnits f x < fourTimes f x
-own-square-below f x held p = lt_of_le-ne (own_square f x held) (λ e. not-twice (rootUnits f x) (root-some f x held p) (exact-units f x held p (rootUnits f x) e))
+own-square-below f x held p = lt_of_le-ne (own-square f x held) (λ e. not-twice (rootUnits f x) (root-some f x held p) (exact-units f x held p (rootUnits f x) e))
   where
     not-twice : (g : ℕ) → 0 < g → 2 * g ≡ g → ⊥
     not-twice g h e = omega arith
 
 -- two values without a sign, one of them the root, that are equally near to the exact root are the same
-no_tie : (f : Format) (x : Float) → T (fits f x) → T (positive x) → (Y : ℕ) → (Y + rootUnits f x) * (Y + rootUnits f x) ≡ fourTimes f x → Y ≡ rootUnits f x
-no_tie f x held p Y e = same Y (rootUnits f x) (exact-units f x held p (Y + rootUnits f x) e)
+no-tie : (f : Format) (x : Float) → T (fits f x) → T (positive x) → (Y : ℕ) → (Y + rootUnits f x) * (Y + rootUnits f x) ≡ fourTimes f x → Y ≡ rootUnits f x
+no-tie f x held p Y e = same Y (rootUnits f x) (exact-units f x held p (Y + rootUnits f x) e)
   where
     same : (Y G : ℕ) → 2 * G ≡ Y + G → Y ≡ G
     same Y G h = omega arith
@@ -332,7 +332,7 @@ module _ (f : Format) (x : Float) (held : T (fits f x)) (p : T (positive x)) whe
       let G = unitsIn f (fin false m e) in
       let Y = unitsIn f (fin true k d) in
       let less : T (lt (fin true k d) (fin false m e)) =
-      place→lt f (fin true k d) (fin false m e) r.held q (unfold is_nan in tt) (apart (overflow f) Y G (subst (λ (z : ℕ). 0 < z) (sym u) (root-some f x held p)) (units_small f (fin true k d) r.held)) in
+      place→lt f (fin true k d) (fin false m e) r.held q (unfold is_nan in tt) (apart (overflow f) Y G (subst (λ (z : ℕ). 0 < z) (sym u) (root-some f x held p)) (units-small f (fin true k d) r.held)) in
       absurd (r.none-nearer (fin false m e) q tt (inr (less, lt_of_le_of_lt (square-mono (sub-le G Y)) (subst (λ (z : ℕ). z * z < fourTimes f x) (sym u) (own-square-below f x held p)))))
     where
       apart : (o a b : ℕ) → 0 < b → a < o → o - a < o + b
@@ -349,7 +349,7 @@ module _ (f : Format) (x : Float) (held : T (fits f x)) (p : T (positive x)) whe
       u = units-of-value f (fin false m e) false (rootUnits f x) v
 
       tie : (Y + G) * (Y + G) ≡ fourTimes f x → Y ≡ G
-      tie t = no_tie f x held p Y (subst (λ (z : ℕ). (Y + z) * (Y + z) ≡ fourTimes f x) u t) ∙ sym u
+      tie t = no-tie f x held p Y (subst (λ (z : ℕ). (Y + z) * (Y + z) ≡ fourTimes f x) u t) ∙ sym u
 
       less : Y < G → Y ≡ G
       less l =
@@ -364,8 +364,8 @@ module _ (f : Format) (x : Float) (held : T (fits f x)) (p : T (positive x)) whe
           (subst (λ (z : ℕ). fourTimes f x ≤ (Y + z) * (Y + z)) (sym u) (sum-with-more f x held (fin false k d) r.held (subst (λ (z : ℕ). z < Y) u l))))
 
       go : (b : Bool) → (T b → Y < G) → (T (not b) → G ≤ Y) → fin false k d ≡ fin false m e
-      go true h n = same_units f false false k m d e r.held q refl (less (h tt))
-      go false h n = same_units f false false k m d e r.held q refl (elim (eq-or-lt_of_le (n tt)) [ inl e ↦ sym e | inr l ↦ more l ])
+      go true h n = same-units f false false k m d e r.held q refl (less (h tt))
+      go false h n = same-units f false false k m d e r.held q refl (elim (eq-or-lt_of_le (n tt)) [ inl e ↦ sym e | inr l ↦ more l ])
 
 pub root-only : (f : Format) (x g : Float) → T (fits f x) → T (positive x) → NearestRoot f x g → g ≡ rootIn f x
 root-only f x g held p r = only-nearest f x held p (rootIn f x) g (root-value f x held p) (root-held f x held) r

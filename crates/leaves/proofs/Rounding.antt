@@ -17,7 +17,7 @@ use lib.Ieee.Scale.{overflow}
 use Rattle.leaves.specs.Root.{wholeRoot, sticky, rounded}
 use Rattle.leaves.proofs.Squares.{square-lt, square-product}
 use Rattle.leaves.proofs.Packing.{prec-hid}
-use Rattle.leaves.proofs.WholeRoots.{below_next, is-root, halves, sticky-cases, sticky-le}
+use Rattle.leaves.proofs.WholeRoots.{below-next, is-root, halves, sticky-cases, sticky-le}
 
 -- ---- what `compare` says
 
@@ -61,8 +61,8 @@ down-at q m rest n h e =
     let r : n % m ≡ rest = ap (λ (x : ℕ). x % m) e ∙ digits_mod q l in
     rw (d, r) (nearest-down q (rest * 2) m h)
 
-up_at : (q m rest n : ℕ) → rest < m → m < rest * 2 → n ≡ q * m + rest → closest n m ≡ suc q
-up_at q m rest n l h e =
+up-at : (q m rest n : ℕ) → rest < m → m < rest * 2 → n ≡ q * m + rest → closest n m ≡ suc q
+up-at q m rest n l h e =
     let d : n / m ≡ q = ap (λ (x : ℕ). x / m) e ∙ digits_div q l in
     let r : n % m ≡ rest = ap (λ (x : ℕ). x % m) e ∙ digits_mod q l in
     rw (d, r) (nearest-up q (rest * 2) m h)
@@ -92,12 +92,12 @@ kept-number R r p s lo hi small tie = go (R % 2) refl
         let y = odd x in
         let z = four (R / 2) in
         let t : 2 * (R * p) < 2 * r + s = lt_of_le-ne (omega arith) (λ g. tie (omega arith) (sym g)) in
-        up_at (R / 2) (4 * p) (2 * p + (2 * (r - R * p) + s)) (2 * r + s) (omega arith) (omega arith) (omega arith) ∙ omega arith
+        up-at (R / 2) (4 * p) (2 * p + (2 * (r - R * p) + s)) (2 * r + s) (omega arith) (omega arith) (omega arith) ∙ omega arith
 
 -- ---- the digits dropped
 
-size_is : (n j : ℕ) → 2 ^ j ≤ n → n < 2 ^ suc j → size n ≡ suc j
-size_is n j lo hi = le_antisymm (size-le n (suc j) hi) (lt_of_not-le (λ (g : size n ≤ j). not-le_of_lt (lt_of_lt_of_le (size-lt n) (pow_mono g)) lo))
+size-is : (n j : ℕ) → 2 ^ j ≤ n → n < 2 ^ suc j → size n ≡ suc j
+size-is n j lo hi = le_antisymm (size-le n (suc j) hi) (lt_of_not-le (λ (g : size n ≤ j). not-le_of_lt (lt_of_lt_of_le (size-lt n) (pow_mono g)) lo))
 
 -- ---- the root of S * p * p
 
@@ -106,7 +106,7 @@ module _ (S p : ℕ) (pos : 0 < p) where
   scaled-reached =
       let r = wholeRoot (S * (p * p)) in
       let R = wholeRoot S in
-      below_next (R * p) r (square-lt (lt_of_le_of_lt (le_trans (le_of_eq (square-product R p)) (mul-le-mul_right (p * p) (is-root S).reached)) (is-root (S * (p * p))).past))
+      below-next (R * p) r (square-lt (lt_of_le_of_lt (le_trans (le_of_eq (square-product R p)) (mul-le-mul_right (p * p) (is-root S).reached)) (is-root (S * (p * p))).past))
 
   pub scaled-past : wholeRoot (S * (p * p)) < (wholeRoot S + 1) * p
   scaled-past =
@@ -158,7 +158,7 @@ module _ (f : Format) (S h : ℕ) (lo : 2 ^ prec f ≤ wholeRoot S) (hi : wholeR
       (div-lt_iff_lt-mul (lit< tt)).1 (subst (λ (w : ℕ). halves (S * (p * p)) < w * 4) (sym (pow-suc 2 (prec f - 1 + h) ∙ ap (λ (w : ℕ). w * 2) (pow-add 2 (prec f - 1) h))) (omega (arith, mul_right_comm (b * 2) 2 p, mul_right_comm b 2 p)))
 
   dropped : size (halves (S * (2 ^ h * 2 ^ h)) * 2 ^ low f / 2 ^ (low f + 2)) - prec f ≡ h
-  dropped = ap (λ (x : ℕ). size x - prec f) (quarter f (halves (S * (2 ^ h * 2 ^ h)))) ∙ ap (λ (x : ℕ). x - prec f) (size_is (halves (S * (2 ^ h * 2 ^ h)) / 4) (prec f - 1 + h) quarter-reached quarter-small) ∙ less (prec f) (two f)
+  dropped = ap (λ (x : ℕ). size x - prec f) (quarter f (halves (S * (2 ^ h * 2 ^ h)))) ∙ ap (λ (x : ℕ). x - prec f) (size-is (halves (S * (2 ^ h * 2 ^ h)) / 4) (prec f - 1 + h) quarter-reached quarter-small) ∙ less (prec f) (two f)
     where
       less : (b : ℕ) → 2 ≤ b → suc (b - 1 + h) - b ≡ h
       less b t = omega arith

@@ -22,8 +22,8 @@ positive-of-lt (fin false n d) h l = lt→ltb 0 n (first_pos n (up d) (first_pos
     some : (a b : ℕ) → a < b → 0 < b
     some a b h = omega arith
 
-pub size_above : (p : Float) → T (positive p) → 0 < num p
-size_above p h = value_pos p (num p) (den p) h (den_pos p) (own_value p h)
+pub size-above : (p : Float) → T (positive p) → 0 < num p
+size-above p h = value_pos p (num p) (den p) h (den_pos p) (own_value p h)
 
 -- ---- as one fraction
 
@@ -31,8 +31,8 @@ like : (s : Bool) → unlike s false ≡ s
 like true = refl
 like false = refl
 
-not_none : (n : ℕ) → T (ltb 0 n) → eqb n 0 ≡ false
-not_none n h = go (eqb n 0) (λ t. clash (ltb→lt 0 n h) (eqb→eq n 0 t))
+not-none : (n : ℕ) → T (ltb 0 n) → eqb n 0 ≡ false
+not-none n h = go (eqb n 0) (λ t. clash (ltb→lt 0 n h) (eqb→eq n 0 t))
   where
     clash : 0 < n → n ≡ 0 → ⊥
     clash l z = omega arith
@@ -46,7 +46,7 @@ unfolding mul
 mul-of-inf f nan h s = absurd h
 mul-of-inf f (inf t) h s = absurd h
 mul-of-inf f (fin true n d) h s = absurd h
-mul-of-inf f (fin false n d) h s = ap (λ (b : Bool). cond b nan (inf (unlike s false))) (not_none n h) ∙ ap inf (like s)
+mul-of-inf f (fin false n d) h s = ap (λ (b : Bool). cond b nan (inf (unlike s false))) (not-none n h) ∙ ap inf (like s)
 
 pub mul-of-finite : (f : Format) (p : Float) → T (positive p) → (s : Bool) (m : ℕ) (e : ℤ) → mul f (fin s m e) p ≡ round f s (m * up e * num p) (down e * den p)
 unfolding mul
@@ -68,7 +68,7 @@ div-of-finite f nan h s m e = absurd h
 div-of-finite f (inf t) h s m e = absurd h
 div-of-finite f (fin true n d) h s m e = absurd h
 div-of-finite f (fin false n d) h s m e =
-    ap (λ (b : Bool). cond b (cond (eqb m 0) nan (inf (unlike s false))) (round f (unlike s false) (m * up e * down d) (n * up d * down e))) (not_none n h)
+    ap (λ (b : Bool). cond b (cond (eqb m 0) nan (inf (unlike s false))) (round f (unlike s false) (m * up e * down d) (n * up d * down e))) (not-none n h)
     ∙ ap (λ (t : Bool). round f t (m * up e * down d) (n * up d * down e)) (like s)
     ∙ ap (round f s (m * up e * down d)) (mul_comm (n * up d) (down e))
 

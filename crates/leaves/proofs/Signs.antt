@@ -154,9 +154,9 @@ sum-of-clear f (fin s m e) (fin t n d) h k z =
     sum-clear f s (m * up e * down d) t (n * up d * down e) (unitsIn f (fin s m e)) (unitsIn f (fin t n d)) (down e * down d) (mul-pos (down_pos e) (down_pos d))
     (units-over f s m e (down d) h) (units-over-swapped f t n d (down e) k) (some-negative f s m e t n d h k z)
 
-not_first : (a b : Bool) → T (not a) → T (not (a && b))
-not_first true b h = absurd h
-not_first false b h = tt
+not-first : (a b : Bool) → T (not a) → T (not (a && b))
+not-first true b h = absurd h
+not-first false b h = tt
 
 not-second : (a b : Bool) → T (not b) → T (not (a && b))
 not-second true b h = h
@@ -164,7 +164,7 @@ not-second false b h = tt
 
 -- x + y and x - y are not -0 where x is not
 pub add-clear : (f : Format) (x y : Float) → T (fits f x) → T (fits f y) → T (not (minusZero x)) → T (not (minusZero (add f x y)))
-add-clear f x y h k z = sum-of-clear f x y h k (not_first (minusZero x) (minusZero y) z)
+add-clear f x y h k z = sum-of-clear f x y h k (not-first (minusZero x) (minusZero y) z)
 
 -- nor where y is not, or is not +0 in a difference
 pub add-clear-second : (f : Format) (x y : Float) → T (fits f x) → T (fits f y) → T (not (minusZero y)) → T (not (minusZero (add f x y)))

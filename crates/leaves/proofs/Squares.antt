@@ -53,15 +53,15 @@ even-of s h = go (s % 2) refl
 halved : (s a : ℕ) → s * s ≡ 2 * a → 4 * (s / 2 * (s / 2)) ≡ 2 * a
 halved s a e = sym (square-twice (s / 2)) ∙ ap (λ (z : ℕ). z * z) (sym (even-of s (omega arith))) ∙ e
 
-even_odd : (m a : ℕ) → m % 2 ≡ 1 → m ≡ 2 * a → ⊥
-even_odd m a o h = omega arith
+even-odd : (m a : ℕ) → m % 2 ≡ 1 → m ≡ 2 * a → ⊥
+even-odd m a o h = omega arith
 
-half_of : (m a : ℕ) → 4 * a ≡ 2 * m → m ≡ 2 * a
-half_of m a h = omega arith
+half-of : (m a : ℕ) → 4 * a ≡ 2 * m → m ≡ 2 * a
+half-of m a h = omega arith
 
 pub power-square : (j m s : ℕ) → m % 2 ≡ 1 → s * s ≡ m * 2 ^ j → PowerSquare s m j
 power-square zero m s o e = record { t = s; l = 0; whole = sym (mul-one s); twice = refl; square = e ∙ mul-one m }
-power-square (suc zero) m s o e = absurd (even_odd m (s / 2 * (s / 2)) o (half_of m (s / 2 * (s / 2)) (halved s m (e ∙ mul_comm m 2))))
+power-square (suc zero) m s o e = absurd (even-odd m (s / 2 * (s / 2)) o (half-of m (s / 2 * (s / 2)) (halved s m (e ∙ mul_comm m 2))))
 power-square (suc (suc j)) m s o e =
     let d : m * 2 ^ suc (suc j) ≡ 2 * (2 * (m * 2 ^ j)) = ap (λ (z : ℕ). m * z) (pow-suc 2 (suc j) ∙ ap (λ (z : ℕ). z * 2) (pow-suc 2 j)) ∙ quad m (2 ^ j) in
     let q : s / 2 * (s / 2) ≡ m * 2 ^ j = quarter (s / 2 * (s / 2)) (m * 2 ^ j) (halved s (2 * (m * 2 ^ j)) (e ∙ d)) in

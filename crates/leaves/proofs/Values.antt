@@ -17,14 +17,14 @@ pub use Rattle.leaves.specs.Keys.{sign}
 
 -- ---- what it takes to fit
 
-two_up : (p : ℕ) → 0 < p → 2 * p ≡ 1 → ⊥
-two_up p h e = omega arith
+two-up : (p : ℕ) → 0 < p → 2 * p ≡ 1 → ⊥
+two-up p h e = omega arith
 
 -- 2 ^ e is 1 / 1 only for e = 0
 plain : (e : ℤ) → up e * down e ≡ 1 → e ≡ pos 0
 plain (pos zero) h = refl
-plain (pos (suc k)) h = absurd (two_up (2 ^ k) (pow_pos k) (sym (pow-succ' 2 k) ∙ sym (mul-one (2 ^ suc k)) ∙ h))
-plain (negsuc k) h = absurd (two_up (2 ^ k) (pow_pos k) (sym (pow-succ' 2 k) ∙ sym (one-mul (2 ^ suc k)) ∙ h))
+plain (pos (suc k)) h = absurd (two-up (2 ^ k) (pow_pos k) (sym (pow-succ' 2 k) ∙ sym (mul-one (2 ^ suc k)) ∙ h))
+plain (negsuc k) h = absurd (two-up (2 ^ k) (pow_pos k) (sym (pow-succ' 2 k) ∙ sym (one-mul (2 ^ suc k)) ∙ h))
 
 -- what `fits` says of a finite value but that it is written in the one way
 pub record Held (f : Format) (m : ℕ) (e : ℤ) : Type 0 where
@@ -59,13 +59,13 @@ odd f s m e h =
 
 -- ---- a value's units
 
-pow_le_back : (a l : ℕ) → 2 ^ a ≤ 2 ^ l → a ≤ l
-pow_le_back a l h = le_of_suc-le-suc (lt_of_not-le (λ (g : suc l ≤ a). lt_irrefl (2 ^ l) (lt_of_lt_of_le (pow-lt g) h)))
+pow-le-back : (a l : ℕ) → 2 ^ a ≤ 2 ^ l → a ≤ l
+pow-le-back a l h = le_of_suc-le-suc (lt_of_not-le (λ (g : suc l ≤ a). lt_irrefl (2 ^ l) (lt_of_lt_of_le (pow-lt g) h)))
 
 -- 2 ^ e is 2 ^ j units
 exponent : (l : ℕ) (e : ℤ) → down e ≤ 2 ^ l → (j : ℕ) × (up e * 2 ^ l ≡ 2 ^ j * down e)
 exponent l (pos a) h = (a + l, sym (pow-add 2 a l) ∙ sym (mul-one (2 ^ (a + l))))
-exponent l (negsuc a) h = (l - suc a, one-mul (2 ^ l) ∙ ap (λ (x : ℕ). 2 ^ x) (sym (back l (suc a) (pow_le_back (suc a) l h))) ∙ pow-add 2 (l - suc a) (suc a))
+exponent l (negsuc a) h = (l - suc a, one-mul (2 ^ l) ∙ ap (λ (x : ℕ). 2 ^ x) (sym (back l (suc a) (pow-le-back (suc a) l h))) ∙ pow-add 2 (l - suc a) (suc a))
 
 -- m * 2 ^ e is m * 2 ^ j units
 pub shifted : (f : Format) (s : Bool) (m : ℕ) (e : ℤ) → T (fits f (fin s m e)) → (j : ℕ) × (m * up e * 2 ^ low f ≡ m * 2 ^ j * down e)
@@ -98,10 +98,10 @@ units-over f s m e k h = mul_right_comm (m * up e) k (2 ^ low f) ∙ ap (λ (x :
 pub units-over-swapped : (f : Format) (s : Bool) (n : ℕ) (d : ℤ) (k : ℕ) → T (fits f (fin s n d)) → n * up d * k * 2 ^ low f ≡ unitsIn f (fin s n d) * (k * down d)
 units-over-swapped f s n d k h = units-over f s n d k h ∙ ap (λ (x : ℕ). unitsIn f (fin s n d) * x) (mul_comm (down d) k)
 
-pub units_small : (f : Format) (x : Float) → T (fits f x) → unitsIn f x < overflow f
-units_small f nan h = pow_pos (low f + suc (emax f))
-units_small f (inf s) h = pow_pos (low f + suc (emax f))
-units_small f (fin s m e) h =
+pub units-small : (f : Format) (x : Float) → T (fits f x) → unitsIn f x < overflow f
+units-small f nan h = pow_pos (low f + suc (emax f))
+units-small f (inf s) h = pow_pos (low f + suc (emax f))
+units-small f (fin s m e) h =
     let l = 2 ^ low f in
     let t = 2 ^ suc (emax f) in
     (div-lt_iff_lt-mul (down_pos e)).1
@@ -117,17 +117,17 @@ units-zero f s (suc m) e h u =
 
 -- ---- the sign and the units give the value
 
-bits_of : Format → Bool → ℕ → ℕ
-bits_of f s n = cond s (top f) 0 + (size n - prec f) * hid f + n / 2 ^ (size n - prec f)
+bitsOf : Format → Bool → ℕ → ℕ
+bitsOf f s n = cond s (top f) 0 + (size n - prec f) * hid f + n / 2 ^ (size n - prec f)
 
-bits_are : (f : Format) (s : Bool) (m : ℕ) (e : ℤ) → to_bits f (fin s m e) ≡ bits_of f s (unitsIn f (fin s m e))
-unfolding to_bits bits_of
-bits_are f s m e = refl
+bits-are : (f : Format) (s : Bool) (m : ℕ) (e : ℤ) → to_bits f (fin s m e) ≡ bitsOf f s (unitsIn f (fin s m e))
+unfolding to_bits bitsOf
+bits-are f s m e = refl
 
-pub same_units : (f : Format) (s t : Bool) (m n : ℕ) (e d : ℤ) → T (fits f (fin s m e)) → T (fits f (fin t n d)) → s ≡ t → unitsIn f (fin s m e) ≡ unitsIn f (fin t n d) → fin s m e ≡ fin t n d
-same_units f s t m n e d h k p q =
+pub same-units : (f : Format) (s t : Bool) (m n : ℕ) (e d : ℤ) → T (fits f (fin s m e)) → T (fits f (fin t n d)) → s ≡ t → unitsIn f (fin s m e) ≡ unitsIn f (fin t n d) → fin s m e ≡ fin t n d
+same-units f s t m n e d h k p q =
     sym (of_bits-to_bits f (fin s m e) h)
-    ∙ ap (of_bits f) (bits_are f s m e ∙ ap (λ (b : Bool). bits_of f b (unitsIn f (fin s m e))) p ∙ ap (bits_of f t) q ∙ sym (bits_are f t n d))
+    ∙ ap (of_bits f) (bits-are f s m e ∙ ap (λ (b : Bool). bitsOf f b (unitsIn f (fin s m e))) p ∙ ap (bitsOf f t) q ∙ sym (bits-are f t n d))
     ∙ of_bits-to_bits f (fin t n d) k
 
 -- x / de and y / dd are both a / c
@@ -146,7 +146,7 @@ same-value f (fin t m e) nan s a c C h k v w = absurd w
 same-value f (fin t m e) (inf u) s a c C h k v w = absurd w
 same-value f (fin t m e) (fin u n d) s a c C h k v w =
     let l = 2 ^ low f in
-    same_units f t u m n e d h k (v.0 ∙ sym w.0)
+    same-units f t u m n e d h k (v.0 ∙ sym w.0)
     (div_same (m * up e * l) (down e) (n * up d * l) (down d) (down_pos e) (down_pos d) (same-fraction (m * up e) (n * up d) (down e) (down d) a c l C v.1 w.1))
 
 -- ---- the values' spacing

@@ -43,22 +43,22 @@ pub is-root : (n : ℕ) → IsRoot n (wholeRoot n)
 unfolding wholeRoot
 is-root n = digits-right (size n) n (lt_of_lt_of_le (size-lt n) (two-four (size n)))
 
-pub below_next : (r s : ℕ) → r < s + 1 → r ≤ s
-below_next r s h = omega arith
+pub below-next : (r s : ℕ) → r < s + 1 → r ≤ s
+below-next r s h = omega arith
 
-at_most : (n r s : ℕ) → IsRoot n r → IsRoot n s → r ≤ s
-at_most n r s h k = below_next r s (square-lt (lt_of_le_of_lt h.reached k.past))
+at-most : (n r s : ℕ) → IsRoot n r → IsRoot n s → r ≤ s
+at-most n r s h k = below-next r s (square-lt (lt_of_le_of_lt h.reached k.past))
 
 pub only-root : (n r s : ℕ) → IsRoot n r → IsRoot n s → r ≡ s
-only-root n r s h k = le_antisymm (at_most n r s h k) (at_most n s r k h)
+only-root n r s h k = le_antisymm (at-most n r s h k) (at-most n s r k h)
 
-pub root_is : (n r : ℕ) → IsRoot n r → wholeRoot n ≡ r
-root_is n r h = only-root n (wholeRoot n) r (is-root n) h
+pub root-is : (n r : ℕ) → IsRoot n r → wholeRoot n ≡ r
+root-is n r h = only-root n (wholeRoot n) r (is-root n) h
 
 -- ---- order
 
 pub root-mono : (a b : ℕ) → a ≤ b → wholeRoot a ≤ wholeRoot b
-root-mono a b h = below_next (wholeRoot a) (wholeRoot b) (square-lt (lt_of_le_of_lt (is-root a).reached (lt_of_le_of_lt h (is-root b).past)))
+root-mono a b h = below-next (wholeRoot a) (wholeRoot b) (square-lt (lt_of_le_of_lt (is-root a).reached (lt_of_le_of_lt h (is-root b).past)))
 
 -- `sticky` is 1 exactly above the square
 pub sticky-cases : (n : ℕ) → ((wholeRoot n * wholeRoot n ≡ n) × (sticky n ≡ 0)) ⊎ ((wholeRoot n * wholeRoot n < n) × (sticky n ≡ 1))

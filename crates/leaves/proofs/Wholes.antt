@@ -14,13 +14,13 @@ use lib.Ieee.Nearest.{div_mono}
 use lib.Ieee.Scale.{overflow}
 use Rattle.leaves.specs.Nearest.{gap, NearestWhole}
 use Rattle.leaves.specs.Round.{nearestWhole, roundIn, roundOf}
-use Rattle.leaves.proofs.Fractions.{Ordered, le→ordered, none_left, ordered-scaled}
+use Rattle.leaves.proofs.Fractions.{Ordered, le→ordered, none-left, ordered-scaled}
 use Rattle.leaves.proofs.Magnitudes.{Most, round-most}
-use Rattle.leaves.proofs.Monotone.{round_number, round-ordered}
+use Rattle.leaves.proofs.Monotone.{round-number, round-ordered}
 use Rattle.leaves.proofs.Order.{highest, lowest}
 use Rattle.leaves.proofs.Packing.{prec-hid}
 use Rattle.leaves.proofs.Signs.{neg-round}
-use Rattle.leaves.proofs.Values.{held, units_small, units-zero, unitsIn}
+use Rattle.leaves.proofs.Values.{held, units-small, units-zero, unitsIn}
 
 -- ---- a whole number within a half
 
@@ -54,8 +54,8 @@ module _ (a c : ℕ) (C : 0 < c) where
       go : (q : ℕ) → 2 * a + c < suc q * (2 * c) → 2 * a < 2 * (q * c) + c
       go q h = omega (arith, suc-mul q (2 * c), mul_left_comm q 2 c)
 
-  at_most : nearestWhole a c ≤ a
-  at_most = go (nearestWhole a c) reached
+  at-most : nearestWhole a c ≤ a
+  at-most = go (nearestWhole a c) reached
     where
       go : (q : ℕ) → 2 * (q * c) ≤ 2 * a + c → q ≤ a
       go q h = elim (dec_le q a) [ yes l ↦ l | no l ↦ omega (arith, step a q c (lt_of_not-le l), mul-one a, mul-le-mul_left a C) ]
@@ -72,11 +72,11 @@ round-value f s m (pos k) h =
     let e : m * 2 ^ k * 2 ^ low f ≡ m * 2 ^ (k + low f) = mul_assoc m (2 ^ k) (2 ^ low f) ∙ ap (λ (x : ℕ). m * x) (sym (pow-add 2 k (low f))) in
     subst (λ (q : ℕ). HasValue (round f s q 1) s q 1) (sym (itself (m * 2 ^ k)))
     (round_exact f s (m * 2 ^ k) 1 m (k + low f) (zero-lt-suc 0) (held f s m (pos k) h).digits
-    (subst (λ (x : ℕ). x < overflow f) (div-one (m * 2 ^ k * 2 ^ low f) ∙ e) (units_small f (fin s m (pos k)) h))
+    (subst (λ (x : ℕ). x < overflow f) (div-one (m * 2 ^ k * 2 ^ low f) ∙ e) (units-small f (fin s m (pos k)) h))
     (e ∙ sym (mul-one (m * 2 ^ (k + low f)))))
 round-value f s m (negsuc k) h =
     round_whole f s (nearestWhole (m * 1) (2 ^ suc k))
-    (le_trans (at_most (m * 1) (2 ^ suc k) (pow_pos (suc k))) (le_trans (le_of_eq (mul-one m)) (le_of_lt (held f s m (negsuc k) h).digits)))
+    (le_trans (at-most (m * 1) (2 ^ suc k) (pow_pos (suc k))) (le_trans (le_of_eq (mul-one m)) (le_of_lt (held f s m (negsuc k) h).digits)))
 
 -- Round: nearest whole number, halves away from zero, sign of zero kept; infinity itself, NaN a NaN.
 pub round-nearest : (f : Format) (s : Bool) (m : ℕ) (e : ℤ) → T (fits f (fin s m e)) → NearestWhole (roundIn f (fin s m e)) s (m * up e) (down e) (nearestWhole (m * up e) (down e))
@@ -89,7 +89,7 @@ round-nearest f s m e h =
     record {
       value = round-value f s m e h;
       near = within-near a c q lo hi;
-      other_sign = within-other-sign a c q lo hi;
+      other-sign = within-other-sign a c q lo hi;
       away = within-away a c q lo hi;
       only = within-only a c q lo hi;
     }
@@ -149,24 +149,24 @@ nearest-mono a c b d C D h =
 -- of two fractions in order the whole numbers are in order, and so are the values that they round to
 ordered-whole : (s t : Bool) (a c b d : ℕ) → 0 < c → 0 < d → Ordered s (a * d) t (b * c) → Ordered s (nearestWhole a c) t (nearestWhole b d)
 ordered-whole false false a c b d C D h = nearest-mono a c b d C D h
-ordered-whole false true a c b d C D h = go (a * d) (b * c) (nearestWhole a c) (nearestWhole b d) (λ (l : a * d ≤ 0). le_trans (at_most a c C) (le_of_eq (none_left a d D l))) (λ (l : b * c ≤ 0). le_trans (at_most b d D) (le_of_eq (none_left b c C l))) h
+ordered-whole false true a c b d C D h = go (a * d) (b * c) (nearestWhole a c) (nearestWhole b d) (λ (l : a * d ≤ 0). le_trans (at-most a c C) (le_of_eq (none-left a d D l))) (λ (l : b * c ≤ 0). le_trans (at-most b d D) (le_of_eq (none-left b c C l))) h
   where
     go : (x y p q : ℕ) → (x ≤ 0 → p ≤ 0) → (y ≤ 0 → q ≤ 0) → y + x ≤ 0 → q + p ≤ 0
     go x y p q f g h = omega (arith, f (omega arith), g (omega arith))
 ordered-whole true false a c b d C D h = tt
 ordered-whole true true a c b d C D h = nearest-mono b d a c D C h
 
-pub round_mono : (f : Format) (x y : Float) → T (le x y) → T (le (roundIn f x) (roundIn f y))
+pub round-mono : (f : Format) (x y : Float) → T (le x y) → T (le (roundIn f x) (roundIn f y))
 unfolding le roundIn
-round_mono f nan y l = absurd l
-round_mono f (inf s) nan l = absurd l
-round_mono f (inf s) (inf t) l = l
-round_mono f (inf true) (fin t n d) l = lowest (roundIn f (fin t n d)) (round_number f t (nearestWhole (n * up d) (down d)) 1 (zero-lt-suc 0))
-round_mono f (inf false) (fin t n d) l = absurd l
-round_mono f (fin s m e) nan l = absurd l
-round_mono f (fin s m e) (inf true) l = absurd l
-round_mono f (fin s m e) (inf false) l = highest (roundIn f (fin s m e)) (round_number f s (nearestWhole (m * up e) (down e)) 1 (zero-lt-suc 0))
-round_mono f (fin s m e) (fin t n d) l =
+round-mono f nan y l = absurd l
+round-mono f (inf s) nan l = absurd l
+round-mono f (inf s) (inf t) l = l
+round-mono f (inf true) (fin t n d) l = lowest (roundIn f (fin t n d)) (round-number f t (nearestWhole (n * up d) (down d)) 1 (zero-lt-suc 0))
+round-mono f (inf false) (fin t n d) l = absurd l
+round-mono f (fin s m e) nan l = absurd l
+round-mono f (fin s m e) (inf true) l = absurd l
+round-mono f (fin s m e) (inf false) l = highest (roundIn f (fin s m e)) (round-number f s (nearestWhole (m * up e) (down e)) 1 (zero-lt-suc 0))
+round-mono f (fin s m e) (fin t n d) l =
     let p = nearestWhole (m * up e) (down e) in
     let q = nearestWhole (n * up d) (down d) in
     round-ordered f s t p 1 q 1 (zero-lt-suc 0) (zero-lt-suc 0) (ordered-scaled s t p q 1 (ordered-whole s t (m * up e) (down e) (n * up d) (down d) (down_pos e) (down_pos d) (le→ordered s m e t n d l)))
@@ -185,7 +185,7 @@ whole-most f (fin s m e) n fit h =
 
 pub f64-round-mono : (x y : Float) → T (le x y) → T (le (roundOf x) (roundOf y))
 unfolding roundOf
-f64-round-mono x y l = round_mono binary64 x y l
+f64-round-mono x y l = round-mono binary64 x y l
 
 pub f64-round-most : (x : Float) (n : ℕ) → n ≤ 2 ^ prec binary64 → Most n x → Most n (roundOf x)
 unfolding roundOf

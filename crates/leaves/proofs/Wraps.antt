@@ -9,9 +9,9 @@ use lib.Ieee.Fits.{add-fits, sub-fits, rem-fits, cond-fits, down_pos, nan-fits, 
 use lib.Ieee.Scale.{finite}
 use Rattle.leaves.specs.Constants.{plusZero, pi, tau}
 use Rattle.leaves.specs.Wrap.{lifted, remTau, wrapOf}
-use Rattle.leaves.proofs.Magnitudes.{Most, add_most, most-either, most-finite, most-more, round-most, sub-most}
+use Rattle.leaves.proofs.Magnitudes.{Most, add-most, most-either, most-finite, most-more, round-most, sub-most}
 use Rattle.leaves.proofs.Order.{minusZero}
-use Rattle.leaves.proofs.Patterns.{Number, add-number, round_number}
+use Rattle.leaves.proofs.Patterns.{Number, add-number, round-number}
 use Rattle.leaves.proofs.Signs.{sub-clear-second}
 
 lifted-fits : (r : Float) → T (fits binary64 r) → T (fits binary64 (lifted r))
@@ -51,7 +51,7 @@ rem-number : (x : Float) → T (finite x) → Number (rem binary64 x tauValue)
 unfolding rem
 rem-number nan h = absurd h
 rem-number (inf s) h = absurd h
-rem-number (fin s m e) h = round_number binary64 s (m * up e * down (negsuc 46) % (884279719003555 * up (negsuc 46) * down e)) (down e * down (negsuc 46))
+rem-number (fin s m e) h = round-number binary64 s (m * up e * down (negsuc 46) % (884279719003555 * up (negsuc 46) * down e)) (down e * down (negsuc 46))
 
 tau-finite : T (finite tau)
 tau-finite = subst (λ (y : Float). T (finite y)) (sym tau-is) tt
@@ -97,13 +97,13 @@ pi-most = omega arith
 
 lifted-most : (r : Float) → Most 7 r → Most 14 (lifted r)
 unfolding lifted
-lifted-most r h = most-either 14 (lt r plusZero) (add binary64 r tau) r (add_most binary64 r tau 7 7 (omega arith) h tau-most) (most-more 7 14 r (omega arith) h)
+lifted-most r h = most-either 14 (lt r plusZero) (add binary64 r tau) r (add-most binary64 r tau 7 7 (omega arith) h tau-most) (most-more 7 14 r (omega arith) h)
 
 pub wrap-most : (v : Float) (n : ℕ) → n + 8 ≤ 2 ^ prec binary64 → Most n v → Most 18 (wrapOf v)
 unfolding wrapOf remTau
 wrap-most v n fit h =
     let once = add binary64 v pi in
     let twice = add binary64 once pi in
-    let m = add_most binary64 once pi (n + 4) 4 (omega arith) (add_most binary64 v pi n 4 (omega arith) h pi-most) pi-most in
+    let m = add-most binary64 once pi (n + 4) 4 (omega arith) (add-most binary64 v pi n 4 (omega arith) h pi-most) pi-most in
     sub-most binary64 (remTau twice) pi 14 4 (omega arith)
     (lifted-most (rem binary64 twice tau) (subst (λ (y : Float). Most 7 (rem binary64 twice y)) (sym tau-is) (rem-most twice (most-finite (n + 4 + 4) twice m)))) pi-most

@@ -6,17 +6,17 @@ use Rattle.std.specs.Float.{binary64}
 use Rattle.std.specs.Float.Ieee.{add, mul}
 use Rattle.leaves.specs.Root.{rootOf}
 
-unfoldable pub key_of : Float → Float → Float
+unfoldable pub keyOf : Float → Float → Float
 unfolding add mul
-key_of a b = add binary64 (mul binary64 a a) (mul binary64 b b)
+keyOf a b = add binary64 (mul binary64 a a) (mul binary64 b b)
 
 unfoldable pub hypotOfKey : Float → Float
 unfolding rootOf
 hypotOfKey k = rootOf k
 
 unfoldable pub hypotOf : Float → Float → Float
-unfolding key_of hypotOfKey
-hypotOf a b = hypotOfKey (key_of a b)
+unfolding keyOf hypotOfKey
+hypotOf a b = hypotOfKey (keyOf a b)
 
 unfoldable pub hypot3Of : Float → Float → Float → Float
 unfolding hypotOf

@@ -59,6 +59,6 @@ gap x y = (x - y) + (y - x)
 pub record NearestWhole (r : Float) (s : Bool) (a c q : ℕ) : Type 0 where
   pub value : HasValue r s q 1
   pub near : (n : ℕ) → gap (q * c) a ≤ gap (n * c) a
-  pub other_sign : (n : ℕ) → gap (q * c) a ≤ n * c + a
+  pub other-sign : (n : ℕ) → gap (q * c) a ≤ n * c + a
   pub away : (n : ℕ) → gap (n * c) a ≡ gap (q * c) a → n ≤ q
   pub only : (p : ℕ) → ((n : ℕ) → gap (p * c) a ≤ gap (n * c) a) → ((n : ℕ) → gap (n * c) a ≡ gap (p * c) a → n ≤ p) → p ≡ q

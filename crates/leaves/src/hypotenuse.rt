@@ -1,13 +1,13 @@
 // The hypotenuse of document 01's stand-in, and the key by which hypotenuses are compared: keys order
 // as hypotenuses do, so the least of many hypotenuses takes one root (proofs/Hypotenuses.antt).
 ghost use Rattle.std.specs.Prelude.{◌≡◌};
-ghost use Rattle.leaves.specs.Hypot.{key_of, hypotOfKey, hypotOf, hypot3Of};
+ghost use Rattle.leaves.specs.Hypot.{keyOf, hypotOfKey, hypotOf, hypot3Of};
 
 use crate::square_root::root;
 
 // The key of a pair of differences: a x a + b x b, each operation rounded.
 pub fn key(a: f64, b: f64) -> f64
-    ensures { result ≡ key_of a b }
+    ensures { result ≡ keyOf a b }
 {
     a * a + b * b
 }

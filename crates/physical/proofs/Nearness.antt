@@ -8,13 +8,13 @@ use lib.Dec.{T}
 use lib.Ieee.{Float, inf, binary64, fits, is_nan, lt}
 use lib.Ieee.Fits.{inf-fits}
 use Rattle.leaves.proofs.Choices.{Clear, smaller-keeps, smaller-number}
-use Rattle.leaves.proofs.Folds.{fold-seen, fold_stays}
+use Rattle.leaves.proofs.Folds.{fold-seen, fold-stays}
 use Rattle.leaves.proofs.Hypotenuses.{hypot3-clear}
 use Rattle.leaves.proofs.Limits.{least-limit}
 use Rattle.space.specs.declared.vectors.Place.{Place}
 use Rattle.clearance.specs.Clearance.{leastOf}
 use Rattle.points.specs.Segments.{Between, between, segmentsFrom, segments}
-use Rattle.points.proofs.RingFolds.{foldRest, rest-none, rest-start, rest-step, rest_end}
+use Rattle.points.proofs.RingFolds.{foldRest, rest-none, rest-start, rest-step, rest-end}
 use Rattle.clearance.proofs.LeastDistance.{leastStep, least-fold, least-held, least-number, rings-perm}
 use Rattle.physical.specs.Space.{residual, distance, physicalClearance}
 use Rattle.physical.specs.Stages.{isNear, anyNear}
@@ -41,30 +41,30 @@ module _ (limit : Float) (p : Place) where
   near-fold b ring = refl
 
   near-stays : (ss : List (Between Place)) → foldl nearStep true ss ≡ true
-  near-stays = fold_stays nearStep true (λ s. refl)
+  near-stays = fold-stays nearStep true (λ s. refl)
 
   -- of a ring that begins at `first`: those left where the places after a are `rest`; `near`: whether one before was
   -- near
   abbrev pub nearFrom : Place → Bool → Place → List Place → Bool
   nearFrom first near a rest = foldRest nearStep first near a rest
 
-  pub near_none : {ring : List Place} → ring ≡ [] → false ≡ anyNear limit p false ring
-  near_none {ring} e = sym (near-fold false ring ∙ rest-none nearStep false e)
+  pub near-none : {ring : List Place} → ring ≡ [] → false ≡ anyNear limit p false ring
+  near-none {ring} e = sym (near-fold false ring ∙ rest-none nearStep false e)
 
   pub near-start : (first : Place) {ring rest : List Place} → ring ≡ first ∷ rest → nearFrom first false first rest ≡ anyNear limit p false ring
   near-start first {ring} e = rest-start nearStep first false e ∙ sym (near-fold false ring)
 
   -- the next is near or not
-  pub near_next : (first a : Place) {b : Place} {rest rest' : List Place} {near whole : Bool} → rest ≡ b ∷ rest' → near ≡ isNear limit p (between a b) → nearFrom first false a rest ≡ whole → nearFrom first near b rest' ≡ whole
-  near_next first a e n w = rw n (sym (rest-step nearStep first false a e) ∙ w)
+  pub near-next : (first a : Place) {b : Place} {rest rest' : List Place} {near whole : Bool} → rest ≡ b ∷ rest' → near ≡ isNear limit p (between a b) → nearFrom first false a rest ≡ whole → nearFrom first near b rest' ≡ whole
+  near-next first a e n w = rw n (sym (rest-step nearStep first false a e) ∙ w)
 
   -- one is near
   pub near-found : (first b : Place) (rest : List Place) {whole : Bool} → nearFrom first true b rest ≡ whole → true ≡ whole
   near-found first b rest w = sym (near-stays (segmentsFrom first b rest)) ∙ w
 
   -- the closing one is left
-  pub near_last : (first a : Place) {rest : List Place} {near whole : Bool} → rest ≡ [] → near ≡ isNear limit p (between a first) → nearFrom first false a rest ≡ whole → near ≡ whole
-  near_last first a e n w = n ∙ sym (rest_end nearStep first false a e) ∙ w
+  pub near-last : (first a : Place) {rest : List Place} {near whole : Bool} → rest ≡ [] → near ≡ isNear limit p (between a first) → nearFrom first false a rest ≡ whole → near ≡ whole
+  near-last first a e n w = n ∙ sym (rest-end nearStep first false a e) ∙ w
 
 -- ---- the rings, one after the other
 
@@ -74,7 +74,7 @@ module _ (limit : Float) (p : Place) where
   ringsNear near rings = foldl (anyNear limit p) near rings
 
   pub ring-stays : (rings : List (List Place)) → ringsNear true rings ≡ true
-  ring-stays = fold_stays (anyNear limit p) true (λ ring. near-fold limit p true ring ∙ near-stays limit p (segments ring))
+  ring-stays = fold-stays (anyNear limit p) true (λ ring. near-fold limit p true ring ∙ near-stays limit p (segments ring))
 
   pub ring-next : {rings rest : List (List Place)} {ring : List Place} {near whole : Bool} → rings ≡ ring ∷ rest → near ≡ anyNear limit p false ring → ringsNear false rings ≡ whole → ringsNear near rest ≡ whole
   ring-next e n w = rw n (sym (ap (ringsNear false) e) ∙ w)
@@ -95,8 +95,8 @@ module _ (limit : Float) (held : T (fits binary64 limit)) (p : Place) where
   abbrev within : Float → Bool
   within d = not (lt limit d)
 
-  step_keeps : (d : Float) (s : Between Place) → Least d → Least (leastStep (distance p) d s)
-  step_keeps d s h = (smaller-keeps (λ (x : Float). T (fits binary64 x)) d (distance p s) h.0 (distance-clear p s).held, smaller-number d (distance p s) h.1)
+  step-keeps : (d : Float) (s : Between Place) → Least d → Least (leastStep (distance p) d s)
+  step-keeps d s h = (smaller-keeps (λ (x : Float). T (fits binary64 x)) d (distance p s) h.0 (distance-clear p s).held, smaller-number d (distance p s) h.1)
 
   step-within : (d : Float) (s : Between Place) → Least d → within (leastStep (distance p) d s) ≡ nearStep limit p (within d) s
   unfolding isNear
@@ -107,7 +107,7 @@ module _ (limit : Float) (held : T (fits binary64 limit)) (p : Place) where
 
   ring-within : (d : Float) (ring : List Place) → Least d → within (leastOf (distance p) d ring) ≡ anyNear limit p (within d) ring
   unfolding anyNear
-  ring-within d ring h = ap within (least-fold (distance p) d ring) ∙ fold-seen (leastStep (distance p)) within (nearStep limit p) Least step_keeps step-within (segments ring) d h
+  ring-within d ring h = ap within (least-fold (distance p) d ring) ∙ fold-seen (leastStep (distance p)) within (nearStep limit p) Least step-keeps step-within (segments ring) d h
 
   pub clearance-within : (rings : List (List Place)) → not (lt limit (physicalClearance p rings)) ≡ foldl (anyNear limit p) (not (lt limit (inf false))) rings
   unfolding physicalClearance is_nan

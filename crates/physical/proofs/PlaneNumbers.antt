@@ -12,7 +12,7 @@ use Rattle.sheet.specs.Content.{Point}
 use Rattle.sheet.specs.Layout.{number, numbers}
 use Rattle.sheet.proofs.Planes.{numbers-at}
 use Rattle.physical.specs.Plane.{onPlane, planeImagesOf}
-use Rattle.physical.specs.Stages.{axesOf, onAxesOf, image_of}
+use Rattle.physical.specs.Stages.{axesOf, onAxesOf, imageOf}
 
 -- three of n numbers, from place k on
 place-of-numbers : (n : ℕ) (s : List ℕ) (at k : ℕ) → k + 2 < n → placeAt (numbers n (drop at s)) k
@@ -42,6 +42,6 @@ pub on-plane : (plane : List Float) (p : Point) → onAxesOf (axesOf plane) p �
 unfolding onAxesOf axesOf onPlane
 on-plane plane p = refl
 
-pub images-on-plane : (plane : List Float) (rings : List (List Point)) → map (map (image_of (axesOf plane))) rings ≡ planeImagesOf plane rings
-unfolding image_of onAxesOf axesOf onPlane planeImagesOf
+pub images-on-plane : (plane : List Float) (rings : List (List Point)) → map (map (imageOf (axesOf plane))) rings ≡ planeImagesOf plane rings
+unfolding imageOf onAxesOf axesOf onPlane planeImagesOf
 images-on-plane plane rings = refl

@@ -22,13 +22,13 @@ least-held rings =
     (subst (λ (x : Float). T (fits binary64 x)) (sym physicalLimit-bits) (of_bits-fits binary64 _))
 
 module _ (s : Sheet) (p : Place) (rings : List (List Place)) {limit : Float} (least : limit ≡ physicalLeast s.rings) where
-  by_near : (below : Bool) → lt limit (inf false) ≡ below → tooClose s p rings ≡ ringsNear limit p (not below) rings
+  by-near : (below : Bool) → lt limit (inf false) ≡ below → tooClose s p rings ≡ ringsNear limit p (not below) rings
   unfolding tooClose
-  by_near below e =
+  by-near below e =
       rw (sym least) (clearance-within limit (subst (λ (x : Float). T (fits binary64 x)) (sym least) (least-held s.rings)) p rings ∙ ap (λ (b : Bool). ringsNear limit p (not b) rings) e)
 
   pub close-within : {near : Bool} → lt limit (inf false) ≡ true → near ≡ ringsNear limit p false rings → near ≡ tooClose s p rings
-  close-within e n = n ∙ sym (by_near true e)
+  close-within e n = n ∙ sym (by-near true e)
 
   pub close-always : lt limit (inf false) ≡ false → true ≡ tooClose s p rings
-  close-always e = sym (by_near false e ∙ ring-stays limit p rings)
+  close-always e = sym (by-near false e ∙ ring-stays limit p rings)

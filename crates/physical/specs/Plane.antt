@@ -2,7 +2,7 @@
 use Rattle.std.specs.Prelude.{List, map, Float}
 use Rattle.std.specs.Float.{binary64}
 use Rattle.std.specs.Float.Ieee.{add, mul}
-use Rattle.space.specs.Vectors.{place, cross_of}
+use Rattle.space.specs.Vectors.{place, crossOf}
 use Rattle.space.specs.Places.{placeAt}
 use Rattle.space.specs.declared.vectors.Place.{Place}
 use Rattle.sheet.specs.Content.{Point}
@@ -26,7 +26,7 @@ onAxes origin uAxis vAxis p =
 -- of a plane's nine numbers: "origin, u axis and normal, three f64 each"
 unfoldable pub onPlane : List Float → Point → Place
 unfolding onAxes
-onPlane plane p = onAxes (placeAt plane 0) (placeAt plane 3) (cross_of (placeAt plane 6) (placeAt plane 3)) p
+onPlane plane p = onAxes (placeAt plane 0) (placeAt plane 3) (crossOf (placeAt plane 6) (placeAt plane 3)) p
 
 -- ---- the images of the points that a chart writes of these rings, at phase 0
 

@@ -2,9 +2,9 @@
 use Rattle.std.specs.Prelude.{Bool, ◌||◌, T, Float}
 use mathlib.Core.List.{List, foldl}
 use Rattle.std.specs.Float.Ieee.{le}
-use Rattle.leaves.specs.Hypot.{key_of, hypot3Of}
+use Rattle.leaves.specs.Hypot.{keyOf, hypot3Of}
 use Rattle.space.specs.Places.{placeAt}
-use Rattle.space.specs.Vectors.{cross_of}
+use Rattle.space.specs.Vectors.{crossOf}
 use Rattle.space.specs.declared.vectors.Place.{Place}
 use Rattle.sheet.specs.Content.{Point}
 use Rattle.points.specs.Segments.{Between, segments}
@@ -27,7 +27,7 @@ anyNear limit p so_far ring = foldl (λ (b : Bool) (s : Between Place). b || isN
 
 -- where the key of two coordinates reaches k, no third makes a distance up to the limit
 pub record Far (limit k : Float) : Type 0 where
-  pub beyond : (a b c : Float) → T (le k (key_of a b)) → T (le (hypot3Of a b c) limit) → ⊥
+  pub beyond : (a b c : Float) → T (le k (keyOf a b)) → T (le (hypot3Of a b c) limit) → ⊥
 
 -- ---- a plane, read once
 
@@ -36,7 +36,7 @@ unfoldable pub axesOf : List Float → Axes
 axesOf plane = record {
   origin = placeAt plane 0;
   u_axis = placeAt plane 3;
-  v_axis = cross_of (placeAt plane 6) (placeAt plane 3);
+  v_axis = crossOf (placeAt plane 6) (placeAt plane 3);
 }
 
 unfoldable pub onAxesOf : Axes → Point → Place
@@ -44,6 +44,6 @@ unfolding onAxes
 onAxesOf axes p = onAxes axes.origin axes.u_axis axes.v_axis p
 
 -- the image of a ring's point: that of the point that is written for it at phase 0
-unfoldable pub image_of : Axes → Point → Place
+unfoldable pub imageOf : Axes → Point → Place
 unfolding onAxesOf
-image_of axes p = onAxesOf axes (writtenPoint 0 p)
+imageOf axes p = onAxesOf axes (writtenPoint 0 p)

@@ -7,7 +7,7 @@ ghost use Rattle.sheet.specs.Layout.{numbers, sheetOf};
 ghost use Rattle.frame.specs.Parts.{ringsFrom};
 ghost use Rattle.physical.specs.Physical.{tooClose};
 ghost use Rattle.physical.specs.Plane.{planeImagesOf};
-ghost use Rattle.physical.specs.Stages.{Far, anyNear, image_of};
+ghost use Rattle.physical.specs.Stages.{Far, anyNear, imageOf};
 
 use crate::deviation::least_clearance;
 use crate::near_segments::{far_key, is_near, is_passable};
@@ -18,7 +18,7 @@ use space::Place;
 // The image of the k-th point of a ring: that of the point which is written for it at phase 0.
 fn image_at(axes: Axes, ring: &[f64], k: usize) -> Place
     requires { 2 * k + 1 < length ring.now }
-    ensures { result ≡ image_of axes (point (get_or ring.now (2 * k) nan) (get_or ring.now (2 * k + 1) nan)) }
+    ensures { result ≡ imageOf axes (point (get_or ring.now (2 * k) nan) (get_or ring.now (2 * k + 1) nan)) }
 {
     on_axes(axes, ring[2 * k], ring[2 * k + 1] - points::phase_angle(0))
 }
@@ -26,7 +26,7 @@ fn image_at(axes: Axes, ring: &[f64], k: usize) -> Place
 // Whether the distance from p to one of the segments between the images of a ring's points is not above the limit.
 fn any_image_near(limit: f64, far: f64, p: Place, axes: Axes, ring: &[f64]) -> bool
     requires { Far limit far }
-    ensures { result ≡ anyNear limit p false (map (image_of axes) (pairs ring.now)) }
+    ensures { result ≡ anyNear limit p false (map (imageOf axes) (pairs ring.now)) }
 {
     let count = ring.len() / 2;
     if count == 0 {
@@ -57,7 +57,7 @@ fn any_plane_ring_near(
     ends: &[usize],
 ) -> bool
     requires { Far limit far }
-    ensures { result ≡ foldl (anyNear limit p) false (map (map (image_of axes)) (ringsFrom 0 ends.now points.now)) }
+    ensures { result ≡ foldl (anyNear limit p) false (map (map (imageOf axes)) (ringsFrom 0 ends.now points.now)) }
 {
     let size = points.len();
     let mut from = 0usize;

@@ -16,7 +16,7 @@ use borrow.Author.Tests.{ne_eqb}
 use Rattle.leaves.specs.Bounds.{largerOf}
 use Rattle.leaves.specs.Constants.{plusZero, physicalLimit}
 use Rattle.leaves.proofs.Choices.{larger-keeps, larger-swap}
-use Rattle.leaves.proofs.Folds.{All, all_append, fold-keeps, fold-perm}
+use Rattle.leaves.proofs.Folds.{All, all-append, fold-keeps, fold-perm}
 use Rattle.space.specs.declared.vectors.Place.{Place}
 use Rattle.sheet.specs.Content.{Point, point, Coedge, Sheet, ringPoints}
 use Rattle.answers.specs.Outcome.{Check, check, first, Numbers, refused, settled}
@@ -30,7 +30,7 @@ use Rattle.sheet.proofs.Reading.{ClearPoint, ClearDeviation}
 use Rattle.chart.specs.Chart.{chosen, frameChecks}
 use Rattle.frame.specs.Framing.{pointCount, phaseWrong}
 use Rattle.points.specs.Written.{writtenPoint}
-use Rattle.chart.proofs.AnyOrder.{same-content, same-phase, same_count, moved-perm, same_chosen, same-frame-checks, same_answer}
+use Rattle.chart.proofs.AnyOrder.{same-content, same-phase, same-count, moved-perm, same-chosen, same-frame-checks, same-answer}
 use Rattle.answers.proofs.Settled.{settled-refused}
 use Rattle.physical.specs.Space.{physicalClearance}
 use Rattle.physical.specs.Images.{ringImages}
@@ -63,7 +63,7 @@ deviates-swap : (d : Float) (a b : List Coedge) → Held d → All ClearDeviatio
 unfolding deviates
 deviates-swap d a b h p q =
     sym (foldl-append largerStep d a b)
-    ∙ fold-perm largerStep Held ClearDeviation step-held (λ d a b h p q. larger-swap binary64 d a.deviation b.deviation h p q) (Permᴰ.append_comm a b) (all_append ClearDeviation a b p q) d h
+    ∙ fold-perm largerStep Held ClearDeviation step-held (λ d a b h p q. larger-swap binary64 d a.deviation b.deviation h p q) (Permᴰ.append_comm a b) (all-append ClearDeviation a b p q) d h
     ∙ foldl-append largerStep d b a
 
 deviation-perm : {rings rings' : List (List Coedge)} → Permᴰ rings rings' → All (All ClearDeviation) rings → greatestDeviation rings ≡ greatestDeviation rings'
@@ -91,7 +91,7 @@ module _ (z : Sheet) (rings : List (List Coedge)) (d : Permᴰ z.rings rings) wh
 
   same-images-wrong : {images images' : List Float} → Permᴰ images images' → imagesWrong z images ≡ imagesWrong z' images'
   unfolding imagesWrong
-  same-images-wrong e = λ i. not (eqb (perm-length e i) (3 * (same_count z rings d i + 1))) || any-of-perm (beyond imageLimit) e i
+  same-images-wrong e = λ i. not (eqb (perm-length e i) (3 * (same-count z rings d i + 1))) || any-of-perm (beyond imageLimit) e i
 
   module _ (points : All (λ (r : List Coedge). All ClearPoint (ringPoints r)) z.rings) (deviations : All (All ClearDeviation) z.rings) where
     same-least : physicalLeast z.rings ≡ physicalLeast rings
@@ -106,13 +106,13 @@ module _ (z : Sheet) (rings : List (List Coedge)) (d : Permᴰ z.rings rings) wh
     same-pick : {own own' : List Check} (phase : ℕ) {p p' : Place} {close close' : Bool} → own ≡ own' → p ≡ p' → close ≡ close'
         → contentPick z own phase p close ≡ contentPick z' own' phase p' close'
     same-pick phase o e k =
-        ap₂ settled (ap first (λ i. same-content z rings d i ++ (o i ++ same-frame-checks z rings d phase points i) ++ check 15 (k i) ∷ [])) (ap₂ answeredAt e (same_chosen z rings d phase points))
+        ap₂ settled (ap first (λ i. same-content z rings d i ++ (o i ++ same-frame-checks z rings d phase points i) ++ check 15 (k i) ∷ [])) (ap₂ answeredAt e (same-chosen z rings d phase points))
 
     -- ---- on the plane
 
-    same_point : planePoint z ≡ planePoint z'
+    same-point : planePoint z ≡ planePoint z'
     unfolding planePoint
-    same_point = ap (λ (n : Numbers). onPlane z.plane (point n.x n.y)) (same_answer z rings d 0 points)
+    same-point = ap (λ (n : Numbers). onPlane z.plane (point n.x n.y)) (same-answer z rings d 0 points)
 
     plane-perm : Permᴰ (planeImages z) (planeImages z')
     unfolding planeImages planeImagesOf
@@ -120,11 +120,11 @@ module _ (z : Sheet) (rings : List (List Coedge)) (d : Permᴰ z.rings rings) wh
 
     same-plane-close : planeClose z ≡ planeClose z'
     unfolding planeClose
-    same-plane-close = same-close same_point plane-perm
+    same-plane-close = same-close same-point plane-perm
 
     pub same-plane-pick : planePick z ≡ planePick z'
     unfolding noPlane
-    same-plane-pick = same-pick {own = check 8 (noPlane z) ∷ []} 0 refl same_point same-plane-close
+    same-plane-pick = same-pick {own = check 8 (noPlane z) ∷ []} 0 refl same-point same-plane-close
 
     -- ---- the images in another order: each ring's where the ring is, the last as it was
 
@@ -155,8 +155,8 @@ module _ (z : Sheet) (phase : ℕ) (images : List Float) where
     some-fails e = true≢false (sym length-wrong ∙ (none-fails own (omega arith) (append-none (contentChecks z) own (content-numbered z) e).1).1.0)
 
     -- the rows behind them do not matter
-    wrong_first : first (contentRows z own phase (imageClose z images)) ≡ first rowsTo10
-    wrong_first =
+    wrong-first : first (contentRows z own phase (imageClose z images)) ≡ first rowsTo10
+    wrong-first =
         let last = check 15 (imageClose z images) ∷ [] in
         ap first (append_assoc (contentChecks z) (own ++ frameChecks z phase) last ∙ sym (append_assoc (contentChecks z) own (frameChecks z phase ++ last)))
         ∙ first-refused rowsTo10 (frameChecks z phase ++ last) some-fails
@@ -164,12 +164,12 @@ module _ (z : Sheet) (phase : ℕ) (images : List Float) where
     wrong-refused : imagePick z phase images ≡ refused (first rowsTo10)
     wrong-refused =
         let answer = answeredAt (lastImage z images) (chosen z phase) in
-        ap (λ (r : ℕ). settled r answer) wrong_first ∙ settled-refused (first rowsTo10) answer some-fails
+        ap (λ (r : ℕ). settled r answer) wrong-first ∙ settled-refused (first rowsTo10) answer some-fails
 
 pub same-wrong-pick : (z : Sheet) (rings : List (List Coedge)) → Permᴰ z.rings rings → (phase : ℕ) (images : List Float) → (length images ≡ 3 * (pointCount z + 1) → ⊥)
     → imagePick z phase images ≡ imagePick (withRings z rings) phase images
 same-wrong-pick z rings d phase images wrong =
-    let wrong' : length images ≡ 3 * (pointCount (withRings z rings) + 1) → ⊥ = λ e. wrong (e ∙ ap (λ (n : ℕ). 3 * (n + 1)) (sym (same_count z rings d))) in
+    let wrong' : length images ≡ 3 * (pointCount (withRings z rings) + 1) → ⊥ = λ e. wrong (e ∙ ap (λ (n : ℕ). 3 * (n + 1)) (sym (same-count z rings d))) in
     wrong-refused z phase images wrong
     ∙ ap (λ (cs : List Check). refused (first cs)) (λ i. same-content z rings d i ++ check 8 (same-phase z rings d phase i) ∷ check 10 (same-images-wrong z rings d (Permᴰ.refl images) i) ∷ [])
     ∙ sym (wrong-refused (withRings z rings) phase images wrong')

@@ -10,7 +10,7 @@ use Rattle.space.specs.declared.vectors.Place.{Place}
 use Rattle.answers.specs.Outcome.{Check, check, first, Numbers, refused, settled}
 use Rattle.answers.specs.Limits.{beyond}
 use Rattle.sheet.specs.Checks.{layoutChecks, contentChecks}
-use Rattle.answers.specs.Lists.{any_of}
+use Rattle.answers.specs.Lists.{anyOf}
 use Rattle.sheet.proofs.Checked.{sheet-numbered}
 use Rattle.answers.proofs.AnyOf.{neither}
 use Rattle.answers.specs.declared.outcomes.Answer.{Answer}
@@ -30,7 +30,7 @@ use Rattle.frame.specs.Framing.{movedRings, frame, pointCount, phaseWrong}
 use Rattle.frame.specs.Seam.{phaseChecks}
 use Rattle.frame.specs.declared.framing.Frame.{Frame}
 use Rattle.chart.specs.Chart.{answered, chosen, frameChecks}
-use Rattle.chart.proofs.Calling.{reads_of, phase-of, phase-rows, phase-numbered}
+use Rattle.chart.proofs.Calling.{reads-of, phase-of, phase-rows, phase-numbered}
 use Rattle.chart.proofs.Outcomes.{frame-numbered}
 use Rattle.physical.specs.Images.{ringImages}
 use Rattle.physical.specs.Physical.{tooClose}
@@ -40,7 +40,7 @@ use Rattle.picker.specs.ImagePick.{imageLimit, imagesWrong, imageClose, imageChe
 use Rattle.picker.specs.Images.{lastImage}
 use Rattle.picker.specs.PlanePick.{planeImages, noPlane, planePickOf}
 use Rattle.picker.specs.Stages.{ImagePassed, PlanePassed, closing}
-use Rattle.picker.proofs.Picks.{Own, closeAt, image-checks-are, image-is, image-own, imageRows, pickChecks, pick_of, plane-is, plane-own, planeAt, planeRows}
+use Rattle.picker.proofs.Picks.{Own, closeAt, image-checks-are, image-is, image-own, imageRows, pickChecks, pickOf, plane-is, plane-own, planeAt, planeRows}
 use Rattle.space.specs.Places.{placeAt}
 
 -- ---- 15, and the answer
@@ -75,30 +75,30 @@ module _ (s : List ℕ) (own : List Check) (phase : ℕ) (p : Place) (close : Bo
       append_assoc rows (own ++ frameChecks (sheetOf s) phase) (check 15 close ∷ []) ∙ ap (λ (cs : List Check). rows ++ cs) (append_assoc own (frameChecks (sheetOf s) phase) (check 15 close ∷ []))
 
   -- the first check that fails is the answer
-  refused-by : (n : ℕ) → first (pickChecks s own phase close) ≡ n → (n ≡ 0 → ⊥) → Picked (Refused n) (pick_of s own phase p close)
-  unfolding pick_of
+  refused-by : (n : ℕ) → first (pickChecks s own phase close) ≡ n → (n ≡ 0 → ⊥) → Picked (Refused n) (pickOf s own phase p close)
+  unfolding pickOf
   refused-by n e h = (paper-refused n ∙ sym (ap (λ (m : ℕ). settled m answer) e ∙ settled-refused n answer h), refused-no-point n h)
 
-  pick-unread : (n : ℕ) → n ≡ first (layoutChecks s ++ contentChecks (sheetOf s)) → (n ≡ 0 → ⊥) → Picked (Refused n) (pick_of s own phase p close)
+  pick-unread : (n : ℕ) → n ≡ first (layoutChecks s ++ contentChecks (sheetOf s)) → (n ≡ 0 → ⊥) → Picked (Refused n) (pickOf s own phase p close)
   pick-unread n e h = refused-by n (ap first checks-are ∙ first-refused (layoutChecks s ++ contentChecks (sheetOf s)) (own ++ last) (λ z. h (e ∙ z)) ∙ sym e) h
 
   module _ (reads : first (layoutChecks s ++ contentChecks (sheetOf s)) ≡ 0) where
     past-reading : first (pickChecks s own phase close) ≡ first (own ++ last)
     past-reading = ap first checks-are ∙ first-passed (layoutChecks s ++ contentChecks (sheetOf s)) (own ++ last) (sheet-numbered s) reads
 
-    pick-wrong : (n : ℕ) → first own ≡ n → (n ≡ 0 → ⊥) → Picked (Refused n) (pick_of s own phase p close)
+    pick-wrong : (n : ℕ) → first own ≡ n → (n ≡ 0 → ⊥) → Picked (Refused n) (pickOf s own phase p close)
     pick-wrong n e h = refused-by n (past-reading ∙ first-refused own last (λ z. h (sym e ∙ z)) ∙ e) h
 
     module _ (o : Own own) (passes : first own ≡ 0) where
       past-own : first (pickChecks s own phase close) ≡ first last
       past-own = past-reading ∙ first-passed own last o.numbered passes
 
-      pick-uncharted : (n : ℕ) → n ≡ first (frameChecks (sheetOf s) phase) → (n ≡ 0 → ⊥) → Picked (Refused n) (pick_of s own phase p close)
+      pick-uncharted : (n : ℕ) → n ≡ first (frameChecks (sheetOf s) phase) → (n ≡ 0 → ⊥) → Picked (Refused n) (pickOf s own phase p close)
       unfolding last
       pick-uncharted n e h = refused-by n (past-own ∙ first-refused (frameChecks (sheetOf s) phase) (check 15 close ∷ []) (λ z. h (e ∙ z)) ∙ sym e) h
 
-      pick-closed : first (frameChecks (sheetOf s) phase) ≡ 0 → closing close p (chosen (sheetOf s) phase) ≡ pick_of s own phase p close
-      unfolding last pick_of closing
+      pick-closed : first (frameChecks (sheetOf s) phase) ≡ 0 → closing close p (chosen (sheetOf s) phase) ≡ pickOf s own phase p close
+      unfolding last pickOf closing
       pick-closed e =
           sym (settled-last 15 (omega arith) close answer) ∙ sym (ap (λ (m : ℕ). settled m answer) (past-own ∙ first-passed (frameChecks (sheetOf s) phase) (check 15 close ∷ []) (frame-numbered (sheetOf s) phase) e))
 
@@ -130,16 +130,16 @@ module _ (s : List ℕ) (phase : ℕ) (images : List Float) where
 
 module _ {s : List ℕ} {phase : ℕ} {images : List Float} (i : ImagePassed s phase images) where
   pub image-reads : first (layoutChecks s ++ contentChecks (sheetOf s)) ≡ 0
-  image-reads = reads_of s phase i.passes
+  image-reads = reads-of s phase i.passes
 
-  rows_pass : first (imageRows (sheetOf s) phase images) ≡ 0
-  rows_pass = first-none (imageRows (sheetOf s) phase images) (phase-of s phase i.passes, (i.imagesRight, tt))
+  rows-pass : first (imageRows (sheetOf s) phase images) ≡ 0
+  rows-pass = first-none (imageRows (sheetOf s) phase images) (phase-of s phase i.passes, (i.imagesRight, tt))
 
   pub images-long : length images ≡ 3 * (pointCount (sheetOf s) + 1)
   unfolding imagesWrong
   images-long =
       let long = eqb (length images) (3 * (pointCount (sheetOf s) + 1)) in
-      eqb-true (length images) (3 * (pointCount (sheetOf s) + 1)) (not-false long (neither (not long) (any_of (beyond imageLimit) images) i.imagesRight).0)
+      eqb-true (length images) (3 * (pointCount (sheetOf s) + 1)) (not-false long (neither (not long) (anyOf (beyond imageLimit) images) i.imagesRight).0)
 
   last-image : placeAt images (length images - 3) ≡ lastImage (sheetOf s) images
   unfolding lastImage
@@ -150,7 +150,7 @@ module _ {s : List ℕ} {phase : ℕ} {images : List Float} (i : ImagePassed s p
   -- what was refused on the way to the grid point
   pub image-refused : (n : ℕ) → n ≡ first (frameChecks (sheetOf s) phase) → (n ≡ 0 → ⊥) → Picked (Refused n) (imagePickOf s phase images)
   image-refused n e h =
-      let r = pick-uncharted s (imageRows (sheetOf s) phase images) phase (lastImage (sheetOf s) images) (imageClose (sheetOf s) images) image-reads (image-own s phase images) rows_pass n e h in
+      let r = pick-uncharted s (imageRows (sheetOf s) phase images) phase (lastImage (sheetOf s) images) (imageClose (sheetOf s) images) image-reads (image-own s phase images) rows-pass n e h in
       (r.0 ∙ sym (image-is s phase images), r.1)
 
   pub image-answered : {close : Bool} {p : Place} {c : Candidate} (r : Answer) → first (frameChecks (sheetOf s) phase) ≡ 0 → p ≡ placeAt images (length images - 3) → close ≡ tooClose (sheetOf s) p (ringImages (sheetOf s).rings images)
@@ -160,7 +160,7 @@ module _ {s : List ℕ} {phase : ℕ} {images : List Float} (i : ImagePassed s p
       let at = e ∙ last-image in (
         q.0
             ∙ (λ j. closing ((k ∙ ap (λ (x : Place). tooClose (sheetOf s) x (ringImages (sheetOf s).rings images)) at) j) (at j) (d j))
-            ∙ pick-closed s (imageRows (sheetOf s) phase images) phase (lastImage (sheetOf s) images) (imageClose (sheetOf s) images) image-reads (image-own s phase images) rows_pass passes
+            ∙ pick-closed s (imageRows (sheetOf s) phase images) phase (lastImage (sheetOf s) images) (imageClose (sheetOf s) images) image-reads (image-own s phase images) rows-pass passes
             ∙ sym (image-is s phase images),
         q.1,
       )
@@ -174,7 +174,7 @@ module _ (s : List ℕ) where
   abbrev nearChosen : Bool
   nearChosen = closeAt (sheetOf s) (chosen (sheetOf s) 0)
 
-  picked-on : (r : Answer) → Picked r (pick_of s (planeRows (sheetOf s)) 0 atChosen nearChosen) → Picked r (planePickOf s)
+  picked-on : (r : Answer) → Picked r (pickOf s (planeRows (sheetOf s)) 0 atChosen nearChosen) → Picked r (planePickOf s)
   picked-on r q = (q.0 ∙ sym (plane-is s), q.1)
 
   pub plane-unread : (n : ℕ) → n ≡ first (layoutChecks s ++ contentChecks (sheetOf s)) → (n ≡ 0 → ⊥) → Picked (Refused n) (planePickOf s)

@@ -18,19 +18,19 @@ use Rattle.sheet.specs.Content.{Sheet}
 use Rattle.sheet.specs.Layout.{ring}
 use Rattle.sheet.proofs.BlockOrder.{withRings}
 use Rattle.frame.specs.Framing.{pointCount}
-use Rattle.frame.proofs.Counting.{count_none, count-cons}
+use Rattle.frame.proofs.Counting.{count-none, count-cons}
 use Rattle.physical.specs.Images.{imageNumbers, ringImages}
 use Rattle.picker.specs.Images.{lastImage}
 use Rattle.picker.specs.Demand.{Imaged, imaged}
 
-abbrev pub block_of : Imaged → List ℕ
-block_of r = r.block
+abbrev pub blockOf : Imaged → List ℕ
+blockOf r = r.block
 
 abbrev pub imagesOf : Imaged → List Float
 imagesOf r = r.images
 
-abbrev pub places_of : Imaged → List Place
-places_of r = triples r.images
+abbrev pub placesOf : Imaged → List Place
+placesOf r = triples r.images
 
 -- as many numbers as its block's points have
 abbrev pub Fitting : Imaged → Type 0
@@ -38,19 +38,19 @@ Fitting r = length r.images ≡ imageNumbers (ring r.block)
 
 -- ---- the parts of a list
 
-pub blocks-back : (bs : List (List ℕ)) (images : List Float) → map block_of (imaged bs images) ≡ bs
+pub blocks-back : (bs : List (List ℕ)) (images : List Float) → map blockOf (imaged bs images) ≡ bs
 unfolding imaged
 blocks-back [] images = refl
 blocks-back (b ∷ bs) images = ap (λ (l : List (List ℕ)). b ∷ l) (blocks-back bs (drop (imageNumbers (ring b)) images))
 
 -- each ring's images are its part's
-pub ring-images : (bs : List (List ℕ)) (images : List Float) → ringImages (map ring bs) images ≡ map places_of (imaged bs images)
+pub ring-images : (bs : List (List ℕ)) (images : List Float) → ringImages (map ring bs) images ≡ map placesOf (imaged bs images)
 unfolding ringImages imaged
 ring-images [] images = refl
 ring-images (b ∷ bs) images = ap (λ (l : List (List Place)). triples (take (imageNumbers (ring b)) images) ∷ l) (ring-images bs (drop (imageNumbers (ring b)) images))
 
 -- parts that fit are cut up into themselves, whatever stands behind them
-pub parts-back : (parts : List Imaged) → All Fitting parts → (rest : List Float) → imaged (map block_of parts) (flatten (map imagesOf parts) ++ rest) ≡ parts
+pub parts-back : (parts : List Imaged) → All Fitting parts → (rest : List Float) → imaged (map blockOf parts) (flatten (map imagesOf parts) ++ rest) ≡ parts
 unfolding imaged flatten
 parts-back [] h rest = refl
 parts-back (r ∷ rs) h rest =
@@ -58,7 +58,7 @@ parts-back (r ∷ rs) h rest =
     let later = flatten (map imagesOf rs) in
     let e : (r.images ++ later) ++ rest ≡ r.images ++ (later ++ rest) = append_assoc r.images later rest in
     ap₂ (λ (xs : List Float) (l : List Imaged). record { block = r.block; images = xs } ∷ l) (ap (take n) e ∙ take_at r.images (later ++ rest) n h.0)
-    (ap (imaged (map block_of rs)) (ap (drop n) e ∙ drop_at r.images (later ++ rest) n h.0) ∙ parts-back rs h.1 rest)
+    (ap (imaged (map blockOf rs)) (ap (drop n) e ∙ drop_at r.images (later ++ rest) n h.0) ∙ parts-back rs h.1 rest)
 
 -- ---- how many numbers they are
 
@@ -68,7 +68,7 @@ module _ (z : Sheet) where
   numbersIn bs = 3 * pointCount (withRings z (map ring bs))
 
   numbers-none : numbersIn [] ≡ 0
-  numbers-none = omega (arith, count_none z)
+  numbers-none = omega (arith, count-none z)
 
   numbers-cons : (b : List ℕ) (bs : List (List ℕ)) → numbersIn (b ∷ bs) ≡ imageNumbers (ring b) + numbersIn bs
   unfolding imageNumbers
@@ -94,10 +94,10 @@ module _ (z : Sheet) where
       let l : numbersIn bs ≤ length (drop n images) = simp length-drop (omega arith) in
       (length-take-le n images (omega arith), parts-fit bs (drop n images) l)
 
-  pub parts-length : (parts : List Imaged) → All Fitting parts → length (flatten (map imagesOf parts)) ≡ numbersIn (map block_of parts)
+  pub parts-length : (parts : List Imaged) → All Fitting parts → length (flatten (map imagesOf parts)) ≡ numbersIn (map blockOf parts)
   unfolding flatten
   parts-length [] h = sym numbers-none
-  parts-length (r ∷ rs) h = length-append r.images (flatten (map imagesOf rs)) ∙ ap₂ ◌+◌ h.0 (parts-length rs h.1) ∙ sym (numbers-cons r.block (map block_of rs))
+  parts-length (r ∷ rs) h = length-append r.images (flatten (map imagesOf rs)) ∙ ap₂ ◌+◌ h.0 (parts-length rs h.1) ∙ sym (numbers-cons r.block (map blockOf rs))
 
 -- ---- the last image is what stands behind those of all points
 

@@ -23,13 +23,13 @@ use Rattle.chart.specs.Demand.{Clearest, NoneServes, Passes, Rule, candidateAt, 
 use Rattle.search.specs.declared.candidate.Candidate.{Candidate}
 use Rattle.chart.proofs.GridRule.{Call, grid-rule}
 use Rattle.answers.proofs.Settled.{settled-last}
-use Rattle.chart.proofs.Outcomes.{first_above}
+use Rattle.chart.proofs.Outcomes.{first-above}
 use Rattle.picker.specs.Images.{lastImage}
 use Rattle.picker.specs.ImagePick.{imageChecks, imageClose, imagePickOf}
 use Rattle.picker.specs.Answered.{answeredAt}
 use Rattle.picker.specs.PlanePick.{planeChecks, planePickOf}
 use Rattle.picker.specs.Demand.{imageAnswer, planeAnswer}
-use Rattle.picker.proofs.Picks.{Own, pick-passes, closeAt, image-checks-are, image-is, image-own, image-parted, imageRows, pick-numbered, pick-parted, pickChecks, pick_of, plane-checks-are, plane-is, plane-own, plane-parted, planeAt, planeRows}
+use Rattle.picker.proofs.Picks.{Own, pick-passes, closeAt, image-checks-are, image-is, image-own, image-parted, imageRows, pick-numbered, pick-parted, pickChecks, pickOf, plane-checks-are, plane-is, plane-own, plane-parted, planeAt, planeRows}
 use Rattle.picker.proofs.Refusals.{image-pick-status, plane-pick-status}
 
 -- ---- a pick whose point, and whether it is too close, are of the chosen grid point
@@ -51,13 +51,13 @@ module _ (s : List ℕ) (own : List Check) (phase : ℕ) (o : Own own) (at : Can
   }
 
   pick-grid-rule : Passes 13 (pickChecks s own phase (close (chosen (sheetOf s) phase)))
-      → (((pick_of s own phase (at (chosen (sheetOf s) phase)) (close (chosen (sheetOf s) phase))).status ≡ 14) ↔ NoneServes (coverAt (sheetOf s) phase) (clearAt (sheetOf s) phase))
+      → (((pickOf s own phase (at (chosen (sheetOf s) phase)) (close (chosen (sheetOf s) phase))).status ≡ 14) ↔ NoneServes (coverAt (sheetOf s) phase) (clearAt (sheetOf s) phase))
       × ((NoneServes (coverAt (sheetOf s) phase) (clearAt (sheetOf s) phase) → ⊥)
       → (i : ℕ) × (j : ℕ) × Clearest (coverAt (sheetOf s) phase) (clearAt (sheetOf s) phase) i j
-      × (pick_of s own phase (at (chosen (sheetOf s) phase)) (close (chosen (sheetOf s) phase))
+      × (pickOf s own phase (at (chosen (sheetOf s) phase)) (close (chosen (sheetOf s) phase))
       ≡ cond (close (candidateAt (coverAt (sheetOf s) phase) (clearAt (sheetOf s) phase) i j)) (refused 15)
       (answeredAt (at (candidateAt (coverAt (sheetOf s) phase) (clearAt (sheetOf s) phase) i j)) (candidateAt (coverAt (sheetOf s) phase) (clearAt (sheetOf s) phase) i j))))
-  unfolding pick_of
+  unfolding pickOf
   pick-grid-rule passes =
       let (refuses, chooses) = grid-rule (sheetOf s) phase checks (λ (c : Candidate). check 15 (close c) ∷ []) (λ (c : Candidate). answeredAt (at c) c) pick-call passes in (
         refuses,
@@ -82,7 +82,7 @@ module _ (s : List ℕ) (phase : ℕ) (images : List Float) where
   pub image-refused-above : (Passes 13 (imageChecks s phase images) → ⊥) → (imagePickOf s phase images).status ≡ first (downTo 13 (imageChecks s phase images))
   image-refused-above n =
       image-pick-status s phase images
-      ∙ first_above 13 (imageChecks s phase images) (check 14 (noneClear (chosen (sheetOf s) phase)) ∷ check 15 (imageClose (sheetOf s) images) ∷ []) (image-parted s phase images) n
+      ∙ first-above 13 (imageChecks s phase images) (check 14 (noneClear (chosen (sheetOf s) phase)) ∷ check 15 (imageClose (sheetOf s) images) ∷ []) (image-parted s phase images) n
 
   -- the checks down to 13 pass where the status is 0, 14 or 15, and by the rule only there
   pub image-passes-joins : ((imagePickOf s phase images).status ≡ 0) ⊎ (((imagePickOf s phase images).status ≡ 14) ⊎ ((imagePickOf s phase images).status ≡ 15)) → Passes 13 (imageChecks s phase images)
@@ -102,7 +102,7 @@ module _ (s : List ℕ) where
   pub plane-refused-above : (Passes 13 (planeChecks s) → ⊥) → (planePickOf s).status ≡ first (downTo 13 (planeChecks s))
   plane-refused-above n =
       plane-pick-status s
-      ∙ first_above 13 (planeChecks s) (check 14 (noneClear (chosen (sheetOf s) 0)) ∷ check 15 (closeAt (sheetOf s) (chosen (sheetOf s) 0)) ∷ []) (plane-parted s) n
+      ∙ first-above 13 (planeChecks s) (check 14 (noneClear (chosen (sheetOf s) 0)) ∷ check 15 (closeAt (sheetOf s) (chosen (sheetOf s) 0)) ∷ []) (plane-parted s) n
 
   pub plane-passes-joins : ((planePickOf s).status ≡ 0) ⊎ (((planePickOf s).status ≡ 14) ⊎ ((planePickOf s).status ≡ 15)) → Passes 13 (planeChecks s)
   plane-passes-joins =

@@ -9,7 +9,7 @@ use Prim.Native.Nat.{ℕ, ◌<◌}
 use native.Mathlib.Omega.{arith}
 use lib.Dec.{eqb}
 use lib.Ieee.{Float}
-use Rattle.leaves.proofs.Folds.{All, all_append}
+use Rattle.leaves.proofs.Folds.{All, all-append}
 use Rattle.space.specs.declared.vectors.Place.{Place}
 use Rattle.sheet.specs.Content.{point, Sheet}
 use Rattle.sheet.specs.Layout.{sheetOf}
@@ -22,7 +22,7 @@ use Rattle.frame.specs.Framing.{frame, phaseWrong}
 use Rattle.chart.specs.Demand.{Passes, downTo}
 use Rattle.search.specs.declared.candidate.Candidate.{Candidate}
 use Rattle.answers.proofs.Settled.{settled-refused, settled-status}
-use Rattle.chart.proofs.Outcomes.{Parted, down-behind, first_passes, frame-all, frame-down-all, frame-parted, parted-behind}
+use Rattle.chart.proofs.Outcomes.{Parted, down-behind, first-passes, frame-all, frame-down-all, frame-parted, parted-behind}
 use Rattle.picker.specs.Images.{lastImage}
 use Rattle.picker.specs.ImagePick.{imageChecks, imageClose, imagePickOf, imagesWrong}
 use Rattle.picker.specs.Answered.{answeredAt}
@@ -34,9 +34,9 @@ use Rattle.physical.specs.Plane.{onPlane}
 unfoldable pub pickChecks : List ℕ → List Check → ℕ → Bool → List Check
 pickChecks s own phase close = layoutChecks s ++ contentChecks (sheetOf s) ++ (own ++ frameChecks (sheetOf s) phase) ++ check 15 close ∷ []
 
-unfoldable pub pick_of : List ℕ → List Check → ℕ → Place → Bool → Numbers
+unfoldable pub pickOf : List ℕ → List Check → ℕ → Place → Bool → Numbers
 unfolding pickChecks
-pick_of s own phase p close = settled (first (pickChecks s own phase close)) (answeredAt p (chosen (sheetOf s) phase))
+pickOf s own phase p close = settled (first (pickChecks s own phase close)) (answeredAt p (chosen (sheetOf s) phase))
 
 -- the numbers that stand between 7 and 11 are no 0, and none of those from 13 on
 pub record Own (own : List Check) : Type 0 where
@@ -48,12 +48,12 @@ pub record Own (own : List Check) : Type 0 where
 -- ---- the status, and what stands beside a refusal
 
 module _ (s : List ℕ) (own : List Check) (phase : ℕ) (p : Place) (close : Bool) where
-  pub pick-status : (pick_of s own phase p close).status ≡ first (pickChecks s own phase close)
-  unfolding pick_of answeredAt
+  pub pick-status : (pickOf s own phase p close).status ≡ first (pickChecks s own phase close)
+  unfolding pickOf answeredAt
   pick-status = settled-status (first (pickChecks s own phase close)) (answeredAt p (chosen (sheetOf s) phase)) refl
 
-  pub pick-refused : ((pick_of s own phase p close).status ≡ 0 → ⊥) → pick_of s own phase p close ≡ refused (pick_of s own phase p close).status
-  unfolding pick_of
+  pub pick-refused : ((pickOf s own phase p close).status ≡ 0 → ⊥) → pickOf s own phase p close ≡ refused (pickOf s own phase p close).status
+  unfolding pickOf
   pick-refused h =
       settled-refused (first (pickChecks s own phase close)) (answeredAt p (chosen (sheetOf s) phase)) (λ e. h (pick-status ∙ e))
       ∙ ap refused (sym pick-status)
@@ -76,9 +76,9 @@ module _ (s : List ℕ) (own : List Check) (phase : ℕ) (close : Bool) where
   abbrev behind : List Check
   behind = check 14 (noneClear (chosen sheet phase)) ∷ check 15 close ∷ []
 
-  rows_are : pickChecks s own phase close ≡ above ++ rest
+  rows-are : pickChecks s own phase close ≡ above ++ rest
   unfolding pickChecks
-  rows_are =
+  rows-are =
       let l = layoutChecks s ++ contentChecks sheet in
       let f = frameChecks sheet phase in
       ap (λ (cs : List Check). cs ++ check 15 close ∷ []) (sym (append_assoc l own f)) ∙ append_assoc (l ++ own) f (check 15 close ∷ [])
@@ -87,27 +87,27 @@ module _ (s : List ℕ) (own : List Check) (phase : ℕ) (close : Bool) where
   above-all : (P : ℕ → Type 0) → P 1 × P 2 × P 3 × P 4 × P 5 → P 6 × P 7 → All (λ (c : Check). P c.number) own → All (λ (c : Check). P c.number) above
   above-all P l c o =
       let Q : Check → Type 0 = λ c. P c.number in
-      all_append Q (layoutChecks s ++ contentChecks sheet) own (all_append Q (layoutChecks s) (contentChecks sheet) (layout-all P s l) (content-all P sheet c)) o
+      all-append Q (layoutChecks s ++ contentChecks sheet) own (all-append Q (layoutChecks s) (contentChecks sheet) (layout-all P s l) (content-all P sheet c)) o
 
-  pub pick_all : (P : ℕ → Type 0) → P 1 × P 2 × P 3 × P 4 × P 5 → P 6 × P 7 → All (λ (c : Check). P c.number) own → P 11 × P 12 × P 13 × P 14 → P 15
+  pub pick-all : (P : ℕ → Type 0) → P 1 × P 2 × P 3 × P 4 × P 5 → P 6 × P 7 → All (λ (c : Check). P c.number) own → P 11 × P 12 × P 13 × P 14 → P 15
       → All (λ (c : Check). P c.number) (pickChecks s own phase close)
-  pick_all P l c o f e =
+  pick-all P l c o f e =
       let Q : Check → Type 0 = λ c. P c.number in
-      subst (All Q) (sym rows_are) (all_append Q above rest (above-all P l c o) (all_append Q (frameChecks sheet phase) (check 15 close ∷ []) (frame-all P sheet phase f) (e, tt)))
+      subst (All Q) (sym rows-are) (all-append Q above rest (above-all P l c o) (all-append Q (frameChecks sheet phase) (check 15 close ∷ []) (frame-all P sheet phase f) (e, tt)))
 
   module _ (o : Own own) where
     above-13 : Lacks 13 above
     above-13 = above-all (λ (n : ℕ). eqb n 13 ≡ false) (refl, refl, refl, refl, refl) (refl, refl) o.no-13
 
     pub pick-parted : Parted 13 (pickChecks s own phase close) (check 14 (noneClear (chosen (sheetOf s) phase)) ∷ check 15 close ∷ [])
-    pick-parted = subst (λ (cs : List Check). Parted 13 cs behind) (sym rows_are) (parted-behind 13 above rest behind above-13 (frame-parted sheet phase (check 15 close ∷ [])))
+    pick-parted = subst (λ (cs : List Check). Parted 13 cs behind) (sym rows-are) (parted-behind 13 above rest behind above-13 (frame-parted sheet phase (check 15 close ∷ [])))
 
     pub pick-numbered : Numbered (pickChecks s own phase close)
-    pick-numbered = pick_all (λ (n : ℕ). 0 < n) (omega arith) (omega arith) o.numbered (omega arith) (omega arith)
+    pick-numbered = pick-all (λ (n : ℕ). 0 < n) (omega arith) (omega arith) o.numbered (omega arith) (omega arith)
 
     -- the rows down to 13, and a number that none of them has
     down-are : downTo 13 (pickChecks s own phase close) ≡ above ++ downTo 13 rest
-    down-are = ap (downTo 13) rows_are ∙ down-behind 13 above rest above-13
+    down-are = ap (downTo 13) rows-are ∙ down-behind 13 above rest above-13
 
     abbrev Not : ℕ → ℕ → Type 0
     Not n m = eqb m n ≡ false
@@ -115,12 +115,12 @@ module _ (s : List ℕ) (own : List Check) (phase : ℕ) (close : Bool) where
     down-lacks : (n : ℕ) → Not n 1 × Not n 2 × Not n 3 × Not n 4 × Not n 5 → Not n 6 × Not n 7 → Lacks n own → Not n 11 × Not n 12 × Not n 13 → Lacks n (downTo 13 (pickChecks s own phase close))
     down-lacks n l c o f =
         subst (Lacks n) (sym down-are)
-        (all_append (λ (c : Check). Not n c.number) above (downTo 13 rest) (above-all (Not n) l c o) (frame-down-all sheet phase (check 15 close ∷ []) (Not n) f))
+        (all-append (λ (c : Check). Not n c.number) above (downTo 13 rest) (above-all (Not n) l c o) (frame-down-all sheet phase (check 15 close ∷ []) (Not n) f))
 
     -- they pass where the first that fails is none, 14 or 15
     pub pick-passes : (first (pickChecks s own phase close) ≡ 0) ⊎ ((first (pickChecks s own phase close) ≡ 14) ⊎ (first (pickChecks s own phase close) ≡ 15)) → Passes 13 (pickChecks s own phase close)
     pick-passes =
-        let passes = first_passes 13 (pickChecks s own phase close) behind pick-parted in
+        let passes = first-passes 13 (pickChecks s own phase close) behind pick-parted in
         ⊎_elim (passes 0 (λ l. absurd (omega (arith, l)))) (⊎_elim (passes 14 (λ l. down-lacks 14 (refl, refl, refl, refl, refl) (refl, refl) o.no-14 (refl, refl, refl))) (passes 15 (λ l. down-lacks 15 (refl, refl, refl, refl, refl) (refl, refl) o.no-15 (refl, refl, refl))))
 
 -- ---- image pick
@@ -139,8 +139,8 @@ module _ (s : List ℕ) (phase : ℕ) (images : List Float) where
   pub image-parted : Parted 13 (imageChecks s phase images) (check 14 (noneClear (chosen (sheetOf s) phase)) ∷ check 15 (imageClose (sheetOf s) images) ∷ [])
   image-parted = rw image-checks-are (pick-parted s (imageRows (sheetOf s) phase images) phase (imageClose (sheetOf s) images) image-own)
 
-  pub image-is : imagePickOf s phase images ≡ pick_of s (imageRows (sheetOf s) phase images) phase (lastImage (sheetOf s) images) (imageClose (sheetOf s) images)
-  unfolding imagePickOf imageChecks pick_of pickChecks
+  pub image-is : imagePickOf s phase images ≡ pickOf s (imageRows (sheetOf s) phase images) phase (lastImage (sheetOf s) images) (imageClose (sheetOf s) images)
+  unfolding imagePickOf imageChecks pickOf pickChecks
   image-is = refl
 
 -- ---- plane pick
@@ -166,6 +166,6 @@ module _ (s : List ℕ) where
   pub plane-parted : Parted 13 (planeChecks s) (check 14 (noneClear (chosen (sheetOf s) 0)) ∷ check 15 (closeAt (sheetOf s) (chosen (sheetOf s) 0)) ∷ [])
   plane-parted = rw plane-checks-are (pick-parted s (planeRows (sheetOf s)) 0 (closeAt (sheetOf s) (chosen (sheetOf s) 0)) plane-own)
 
-  pub plane-is : planePickOf s ≡ pick_of s (planeRows (sheetOf s)) 0 (planeAt (sheetOf s) (chosen (sheetOf s) 0)) (closeAt (sheetOf s) (chosen (sheetOf s) 0))
-  unfolding planePickOf planeChecks planeClose planePoint pick_of pickChecks
+  pub plane-is : planePickOf s ≡ pickOf s (planeRows (sheetOf s)) 0 (planeAt (sheetOf s) (chosen (sheetOf s) 0)) (closeAt (sheetOf s) (chosen (sheetOf s) 0))
+  unfolding planePickOf planeChecks planeClose planePoint pickOf pickChecks
   plane-is = refl

@@ -16,7 +16,7 @@ use Rattle.picker.specs.Images.{lastImage}
 use Rattle.picker.specs.ImagePick.{imageChecks, imageClose, imagePickOf}
 use Rattle.picker.specs.PlanePick.{planeChecks, planePickOf}
 use Rattle.picker.specs.Demand.{imageStatuses, planeStatuses}
-use Rattle.picker.proofs.Picks.{closeAt, image-checks-are, image-is, imageRows, pick_all, pick-refused, pick-status, plane-checks-are, plane-is, planeAt, planeRows}
+use Rattle.picker.proofs.Picks.{closeAt, image-checks-are, image-is, imageRows, pick-all, pick-refused, pick-status, plane-checks-are, plane-is, planeAt, planeRows}
 
 -- ---- image pick
 
@@ -35,7 +35,7 @@ module _ (s : List ℕ) (phase : ℕ) (images : List Float) where
   image-pick-status-one =
       rw (image-pick-status, image-checks-are s phase images)
       (first-one-of imageStatuses _ tt
-      (pick_all s (imageRows (sheetOf s) phase images) phase (imageClose (sheetOf s) images) (λ (n : ℕ). T (amongst n imageStatuses)) (tt, tt, tt, tt, tt) (tt, tt) (tt, (tt, tt)) (tt, tt, tt, tt) tt))
+      (pick-all s (imageRows (sheetOf s) phase images) phase (imageClose (sheetOf s) images) (λ (n : ℕ). T (amongst n imageStatuses)) (tt, tt, tt, tt, tt) (tt, tt) (tt, (tt, tt)) (tt, tt, tt, tt) tt))
 
 -- ---- plane pick
 
@@ -53,4 +53,4 @@ module _ (s : List ℕ) where
   plane-pick-status-one =
       rw (plane-pick-status, plane-checks-are s)
       (first-one-of planeStatuses _ tt
-      (pick_all s (planeRows (sheetOf s)) 0 (closeAt (sheetOf s) (chosen (sheetOf s) 0)) (λ (n : ℕ). T (amongst n planeStatuses)) (tt, tt, tt, tt, tt) (tt, tt) (tt, tt) (tt, tt, tt, tt) tt))
+      (pick-all s (planeRows (sheetOf s)) 0 (closeAt (sheetOf s) (chosen (sheetOf s) 0)) (λ (n : ℕ). T (amongst n planeStatuses)) (tt, tt, tt, tt, tt) (tt, tt) (tt, tt) (tt, tt, tt, tt) tt))

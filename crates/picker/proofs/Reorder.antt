@@ -33,15 +33,15 @@ use Rattle.picker.specs.ImagePick.{imageClose, imagePickOf}
 use Rattle.picker.specs.PlanePick.{planeClose, planePickOf, planePoint}
 use Rattle.picker.specs.Demand.{Imaged, imaged, imagesWith, sheetWith}
 use Rattle.picker.proofs.AnyOrder.{contentPick, imagePick, planePick, same-image-pick, same-plane-pick, same-wrong-pick}
-use Rattle.picker.proofs.Picks.{image-is, imageRows, pickChecks, pick_of, plane-is, planeRows}
-use Rattle.picker.proofs.Carried.{Fitting, block_of, blocks-back, images-back, imagesOf, last-behind, numbersIn, parts-back, parts-fit, parts-length, places_of, ring-images}
+use Rattle.picker.proofs.Picks.{image-is, imageRows, pickChecks, pickOf, plane-is, planeRows}
+use Rattle.picker.proofs.Carried.{Fitting, blockOf, blocks-back, images-back, imagesOf, last-behind, numbersIn, parts-back, parts-fit, parts-length, placesOf, ring-images}
 
 -- ---- a sheet whose layout reads: its picks are those of its content
 
 module _ (s : List ℕ) (reads : first (layoutChecks s) ≡ 0) where
   pick-content : (own : List Check) (phase : ℕ) (p : Place) (close : Bool)
-      → pick_of s own phase p close ≡ contentPick (sheetOf s) own phase p close
-  unfolding pick_of pickChecks
+      → pickOf s own phase p close ≡ contentPick (sheetOf s) own phase p close
+  unfolding pickOf pickChecks
   pick-content own phase p close =
       let content = contentChecks (sheetOf s) in
       let rows = own ++ frameChecks (sheetOf s) phase in
@@ -62,7 +62,7 @@ module _ (s : List ℕ) (reads : first (layoutChecks s) ≡ 0) where
 -- every order of the blocks is that of blocks with their images, whatever the images
 pub every-order : (s : List ℕ) (images : List Float) (bs : List (List ℕ)) → Permᴰ (blocks s) bs
     → (parts : List Imaged) × Permᴰ (imaged (blocks s) images) parts × (map (λ (r : Imaged). r.block) parts ≡ bs)
-every-order s images bs d = lift-perm block_of (imaged (blocks s) images) (subst (λ (l : List (List ℕ)). Permᴰ l bs) (sym (blocks-back (blocks s) images)) d)
+every-order s images bs d = lift-perm blockOf (imaged (blocks s) images) (subst (λ (l : List (List ℕ)). Permᴰ l bs) (sym (blocks-back (blocks s) images)) d)
 
 module _ (s : List ℕ) (reads : first (layoutChecks s) ≡ 0) where
   abbrev z : Sheet
@@ -110,13 +110,13 @@ module _ (s : List ℕ) (reads : first (layoutChecks s) ≡ 0) where
 
     module _ (parts : List Imaged) (d : Permᴰ (imaged (blocks s) images) parts) where
       abbrev bs : List (List ℕ)
-      bs = map block_of parts
+      bs = map blockOf parts
 
       abbrev images' : List Float
       images' = flatten (map imagesOf parts) ++ last
 
       blocks-perm : Permᴰ (blocks s) bs
-      blocks-perm = subst (λ (l : List (List ℕ)). Permᴰ l bs) (blocks-back (blocks s) images) (map-perm block_of d)
+      blocks-perm = subst (λ (l : List (List ℕ)). Permᴰ l bs) (blocks-back (blocks s) images) (map-perm blockOf d)
 
       images-perm : Permᴰ images images'
       unfolding imagesWith
@@ -130,9 +130,9 @@ module _ (s : List ℕ) (reads : first (layoutChecks s) ≡ 0) where
 
       ringwise : Permᴰ (ringImages z.rings images) (ringImages (map ring bs) images')
       ringwise =
-          let before : ringImages z.rings images ≡ map places_of (imaged (blocks s) images) = ap (λ (rs : List (List Coedge)). ringImages rs images) (rings-are s) ∙ ring-images (blocks s) images in
-          let after : ringImages (map ring bs) images' ≡ map places_of parts = ring-images bs images' ∙ ap (map places_of) back in
-          rw (before, after) (map-perm places_of d)
+          let before : ringImages z.rings images ≡ map placesOf (imaged (blocks s) images) = ap (λ (rs : List (List Coedge)). ringImages rs images) (rings-are s) ∙ ring-images (blocks s) images in
+          let after : ringImages (map ring bs) images' ≡ map placesOf parts = ring-images bs images' ∙ ap (map placesOf) back in
+          rw (before, after) (map-perm placesOf d)
 
       same-last : lastImage z images ≡ lastImage (withRings z (map ring bs)) images'
       same-last =

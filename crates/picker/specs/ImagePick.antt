@@ -4,7 +4,7 @@ use Rattle.std.specs.Prelude.{Bool, not, ◌||◌, List, [], ◌∷◌, ◌++◌
 use Rattle.std.specs.Float.{binary64}
 use Rattle.std.specs.Float.Ieee.{of_bits}
 use Rattle.sheet.specs.Content.{Sheet}
-use Rattle.answers.specs.Lists.{any_of}
+use Rattle.answers.specs.Lists.{anyOf}
 use Rattle.sheet.specs.Layout.{sheetOf}
 use Rattle.answers.specs.Outcome.{Check, check, first, Numbers, settled}
 use Rattle.answers.specs.Limits.{beyond}
@@ -22,7 +22,7 @@ imageLimit = of_bits binary64 0x41D0000000000000
 
 -- 10: "image list not 3 × (points + 1) long, or an entry not finite or above 2^30 in magnitude"
 unfoldable pub imagesWrong : Sheet → List Float → Bool
-imagesWrong s images = not (eqb (length images) (3 * (pointCount s + 1))) || any_of (beyond imageLimit) images
+imagesWrong s images = not (eqb (length images) (3 * (pointCount s + 1))) || anyOf (beyond imageLimit) images
 
 unfoldable pub imageClose : Sheet → List Float → Bool
 unfolding lastImage

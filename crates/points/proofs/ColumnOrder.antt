@@ -12,7 +12,7 @@ use lib.Ieee.Order.{round_mono}
 use lib.Ieee.Positive.{positive}
 use lib.Ieee.Scale.{finite}
 use Rattle.leaves.specs.Constants.{plusZero, greatestFinite}
-use Rattle.leaves.proofs.Monotone.{div_mono}
+use Rattle.leaves.proofs.Monotone.{div-mono}
 use Rattle.leaves.proofs.Order.{within-finite}
 use Rattle.leaves.proofs.Scaling.{div-of-inf, div-sign, positive-of-lt}
 use Rattle.leaves.proofs.Signs.{round-sign}
@@ -23,14 +23,14 @@ use Rattle.points.specs.Turns.{keepsOrder}
 
 -- ---- the columns
 
-thirty_two : T (positive thirtyTwo)
+thirty-two : T (positive thirtyTwo)
 unfolding of_bits
-thirty_two = tt
+thirty-two = tt
 
 -- they go up
-pub part_up : (i j : ℕ) → i ≤ j → T (le (part i) (part j))
+pub part-up : (i j : ℕ) → i ≤ j → T (le (part i) (part j))
 unfolding part of_int
-part_up i j h = div_mono binary64 (of_int binary64 (pos i)) (of_int binary64 (pos j)) thirtyTwo thirty_two (round_mono binary64 i 1 j 1 (omega arith) (omega arith) (omega arith))
+part-up i j h = div-mono binary64 (of_int binary64 (pos i)) (of_int binary64 (pos j)) thirtyTwo thirty-two (round_mono binary64 i 1 j 1 (omega arith) (omega arith) (omega arith))
 
 -- and have no sign
 pub part-plain : (i : ℕ) → sign (part i) ≡ false
@@ -39,8 +39,8 @@ part-plain i = go (of_int binary64 (pos i)) (round-sign binary64 false i 1)
   where
     go : (x : Float) → sign x ≡ false → sign (div binary64 x thirtyTwo) ≡ false
     go nan h = unfold div in refl
-    go (inf s) h = ap sign (div-of-inf binary64 thirtyTwo thirty_two s) ∙ h
-    go (fin s m e) h = div-sign binary64 thirtyTwo thirty_two s m e ∙ h
+    go (inf s) h = ap sign (div-of-inf binary64 thirtyTwo thirty-two s) ∙ h
+    go (fin s m e) h = div-sign binary64 thirtyTwo thirty-two s m e ∙ h
 
 -- ---- tests
 

@@ -10,7 +10,7 @@ use Rattle.leaves.specs.Bounds.{exceedsOf}
 use Rattle.leaves.specs.Constants.{pi}
 use Rattle.sheet.specs.Content.{pairs}
 use Rattle.points.specs.Bounds.{goesAround}
-use Rattle.points.proofs.Pairs.{pairs-step, pairs_end}
+use Rattle.points.proofs.Pairs.{pairs-step, pairs-end}
 use Rattle.points.proofs.Walk.{last-point}
 
 pub around : (xs : List Float) → 0 < length xs / 2 → goesAround (pairs xs) ≡ exceedsOf (sub binary64 (get_or xs 0 nan) (get_or xs (2 * (length xs / 2) - 2) nan)) pi
@@ -21,4 +21,4 @@ around xs h =
 
 pub no-points-around : (xs : List Float) → length xs / 2 ≡ 0 → goesAround (pairs xs) ≡ false
 unfolding goesAround
-no-points-around xs h = ap goesAround (pairs_end xs 0 (omega arith))
+no-points-around xs h = ap goesAround (pairs-end xs 0 (omega arith))

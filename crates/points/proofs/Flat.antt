@@ -16,10 +16,10 @@ unfolding pairs flat
 pairs-flat [] = refl
 pairs-flat (p ∷ ps) = ap (λ (qs : List Point). p ∷ qs) (pairs-flat ps)
 
-pub flat_append : (ps qs : List Point) → flat (ps ++ qs) ≡ flat ps ++ flat qs
+pub flat-append : (ps qs : List Point) → flat (ps ++ qs) ≡ flat ps ++ flat qs
 unfolding flat
-flat_append [] qs = refl
-flat_append (p ∷ ps) qs = ap (λ (ys : List Float). p.u ∷ p.v ∷ ys) (flat_append ps qs)
+flat-append [] qs = refl
+flat-append (p ∷ ps) qs = ap (λ (ys : List Float). p.u ∷ p.v ∷ ys) (flat-append ps qs)
 
 -- ---- lengths
 
@@ -28,11 +28,11 @@ unfolding flat
 length-flat [] = refl
 length-flat (p ∷ ps) = omega (arith, length-flat ps)
 
-pub length_pairs : (xs : List Float) → length (pairs xs) ≡ length xs / 2
+pub length-pairs : (xs : List Float) → length (pairs xs) ≡ length xs / 2
 unfolding pairs
-length_pairs [] = refl
-length_pairs (u ∷ []) = refl
-length_pairs (u ∷ v ∷ xs) = omega (arith, length_pairs xs)
+length-pairs [] = refl
+length-pairs (u ∷ []) = refl
+length-pairs (u ∷ v ∷ xs) = omega (arith, length-pairs xs)
 
 -- ---- one point
 
@@ -50,10 +50,10 @@ pairs-at (u ∷ v ∷ xs) (suc k) d h =
 
 -- ---- the numbers to be written
 
-pub written_is : (phase : ℕ) (p : Point) → writtenPoint phase p ≡ point p.u (sub binary64 p.v (phaseAngle phase))
+pub written-is : (phase : ℕ) (p : Point) → writtenPoint phase p ≡ point p.u (sub binary64 p.v (phaseAngle phase))
 unfolding writtenPoint
-written_is phase p = refl
+written-is phase p = refl
 
 -- how many numbers the points of a list are, each changed
 pub changed-room : (change : Point → Point) (xs : List Float) → length (flat (map change (pairs xs))) ≡ 2 * (length xs / 2)
-changed-room change xs = simp (length-flat, length-map, length_pairs)
+changed-room change xs = simp (length-flat, length-map, length-pairs)

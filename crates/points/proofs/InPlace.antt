@@ -10,7 +10,7 @@ use lib.Seq.{drop-cons, drop-drop, drop_at, take_at, set_at}
 use Rattle.sheet.specs.Content.{Point, point, pairs, flat, onPoints}
 use Rattle.answers.specs.Lists.{over}
 use Rattle.answers.proofs.Over.{over-room}
-use Rattle.points.proofs.Flat.{flat_append, length-flat}
+use Rattle.points.proofs.Flat.{flat-append, length-flat}
 use Rattle.points.proofs.Pairs.{pairs-step}
 
 -- of `whole` the first k points are written over `before`, and `rest` is left
@@ -21,9 +21,9 @@ pub record Written (before now : List Float) (k : ℕ) (rest whole : List Point)
   pub all : done ++ rest ≡ whole
   pub same : length now ≡ length before
 
-pub none_written : (xs : List Float) (whole : List Point) → Written xs xs 0 whole whole
+pub none-written : (xs : List Float) (whole : List Point) → Written xs xs 0 whole whole
 unfolding flat
-none_written xs whole = record { done = []; count = refl; list = refl; all = refl; same = refl }
+none-written xs whole = record { done = []; count = refl; list = refl; all = refl; same = refl }
 
 -- the two stores of a point
 stores : (xs : List Float) (a b : Float) (ys : List Float) (x y : Float) (n : ℕ) → length xs ≡ n → set (set (xs ++ a ∷ b ∷ ys) n x) (n + 1) y ≡ xs ++ x ∷ y ∷ ys
@@ -63,7 +63,7 @@ module _ {before now : List Float} {k : ℕ} {rest whole : List Point} (w : Writ
         record {
           done = w.done ++ qs;
           count = further-count;
-          list = rw (t, h, behind, drop-drop, n, flat_append, append_assoc);
+          list = rw (t, h, behind, drop-drop, n, flat-append, append_assoc);
           all = further-all;
           same = rw (t, h, behind, drop-drop) (simp (length-append, length-drop, length-flat, w.count) (omega arith));
         }
@@ -79,7 +79,7 @@ module _ {before now : List Float} {k : ℕ} {rest whole : List Point} (w : Writ
       record {
         done = w.done ++ point x y ∷ [];
         count = further-count (point x y ∷ []) left e;
-        list = rw (w.list, two, stores (flat w.done) (get_or before (2 * k) x) (get_or before (suc (2 * k)) x) (drop (2 * (k + 1)) before) x y (2 * k) front, flat_append, append_assoc);
+        list = rw (w.list, two, stores (flat w.done) (get_or before (2 * k) x) (get_or before (suc (2 * k)) x) (drop (2 * (k + 1)) before) x y (2 * k) front, flat-append, append_assoc);
         all = further-all (point x y ∷ []) left e;
         same = simp length-set w.same;
       }

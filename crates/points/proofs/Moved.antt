@@ -79,6 +79,6 @@ unfolding unrolled
 length-unrolled kind [] = refl
 length-unrolled kind (p ∷ ps) = ap suc (length-follow kind p ps)
 
-pub length_moved : (kind phase : ℕ) (ps : List Point) → length (movedRing kind phase ps) ≡ length ps
+pub length-moved : (kind phase : ℕ) (ps : List Point) → length (movedRing kind phase ps) ≡ length ps
 unfolding movedRing
-length_moved kind phase ps = length-unrolled kind (map (wrapped phase) ps) ∙ length-map ps (wrapped phase)
+length-moved kind phase ps = length-unrolled kind (map (wrapped phase) ps) ∙ length-map ps (wrapped phase)

@@ -29,5 +29,5 @@ short [] h = refl
 short (u ∷ []) h = refl
 short (u ∷ v ∷ xs) h = absurd (not-lt-two (length xs) h)
 
-pub pairs_end : (xs : List Float) (k : ℕ) → length xs / 2 ≤ k → pairs (drop (2 * k) xs) ≡ []
-pairs_end xs k h = short (drop (2 * k) xs) (simp length-drop (omega arith))
+pub pairs-end : (xs : List Float) (k : ℕ) → length xs / 2 ≤ k → pairs (drop (2 * k) xs) ≡ []
+pairs-end xs k h = short (drop (2 * k) xs) (simp length-drop (omega arith))

@@ -18,10 +18,10 @@ use Rattle.leaves.specs.Round.{roundOf}
 use Rattle.leaves.specs.Wrap.{wrapOf}
 use Rattle.leaves.proofs.Choices.{larger-keeps, smaller-keeps}
 use Rattle.leaves.proofs.Folds.{All, fold-keeps}
-use Rattle.leaves.proofs.Magnitudes.{Most, add_most, div_most, most-either, most-more, mul_most, sub-most, smaller-first, larger-first}
+use Rattle.leaves.proofs.Magnitudes.{Most, add-most, div-most, most-either, most-more, mul-most, sub-most, smaller-first, larger-first}
 use Rattle.leaves.proofs.Wholes.{f64-round-most}
 use Rattle.leaves.proofs.Wraps.{wrap-most}
-use Rattle.answers.proofs.Permutations.{all_map, all-weaken}
+use Rattle.answers.proofs.Permutations.{all-map, all-weaken}
 use Rattle.sheet.specs.Content.{Point}
 use Rattle.sheet.proofs.Checked.{MostPoint}
 use Rattle.points.specs.Bounds.{least, greatest, axisOf}
@@ -54,15 +54,15 @@ turns-most : (x : Float) (n : ℕ) → n + 8 ≤ 2 ^ prec binary64 → Most n x 
 unfolding turns
 turns-most x n fit h =
     let few = le_trans (turns-few n) fit in
-    mul_most binary64 (roundOf (div binary64 x tau)) tau (turnsIn n) (n + 8) tau-above fit (turns-stay n)
-    (f64-round-most (div binary64 x tau) (turnsIn n) few (div_most binary64 x tau n (turnsIn n) tau-above few (turns-reach n) h))
+    mul-most binary64 (roundOf (div binary64 x tau)) tau (turnsIn n) (n + 8) tau-above fit (turns-stay n)
+    (f64-round-most (div binary64 x tau) (turnsIn n) few (div-most binary64 x tau n (turnsIn n) tau-above few (turns-reach n) h))
 
 near-most : (previous x : Float) (n l c : ℕ) → l + l + 8 ≤ c → n + c ≤ 2 ^ prec binary64 → Most n previous → Most l x → Most (n + c) (near previous x)
 unfolding near
 near-most previous x n l c grows fit h k =
     let d = sub binary64 previous x in
     most-more (l + (n + l + 8)) (n + c) (near previous x) (omega arith)
-    (add_most binary64 x (turns d tau) l (n + l + 8) (omega arith) k (turns-most d (n + l) (omega arith) (sub-most binary64 previous x n l (omega arith) h k)))
+    (add-most binary64 x (turns d tau) l (n + l + 8) (omega arith) k (turns-most d (n + l) (omega arith) (sub-most binary64 previous x n l (omega arith) h k)))
 
 -- ---- the points of a ring: none is larger than l when it is read, each lies at most c further out than the last
 
@@ -103,7 +103,7 @@ module _ (l c : ℕ) (grows : l + l + 8 ≤ c) where
       unfolding movedRing
       moved-ring-most kind phase ps long h =
           unrolled-most kind (map (wrapped phase) ps) (subst (λ (k : ℕ). l + k * c ≤ b) (sym (length-map ps (wrapped phase))) long)
-          (all_map (MostPoint l) (wrapped phase) ps (all-weaken (MostPoint l) (λ (p : Point). MostPoint l (wrapped phase p)) (wrapped-most phase) ps h))
+          (all-map (MostPoint l) (wrapped phase) ps (all-weaken (MostPoint l) (λ (p : Point). MostPoint l (wrapped phase p)) (wrapped-most phase) ps h))
 
 -- ---- the least and the greatest, of one number or more
 
@@ -117,7 +117,7 @@ module _ (n axis : ℕ) where
   extreme-most step start first keeps [] l h = absurd (omega arith)
   extreme-most step start first keeps (p ∷ ps) l h =
       fold-keeps step (Most n) (Most n) keeps (map (axisOf axis) ps)
-      (all_map (Most n) (axisOf axis) ps (all-weaken (MostPoint n) (λ (q : Point). Most n (axisOf axis q)) (axis-most n axis) ps h.1))
+      (all-map (Most n) (axisOf axis) ps (all-weaken (MostPoint n) (λ (q : Point). Most n (axisOf axis q)) (axis-most n axis) ps h.1))
       (step start (axisOf axis p)) (first (axisOf axis p) (axis-most n axis p h.0))
 
   pub least-most : (ps : List Point) → 1 ≤ length ps → All (MostPoint n) ps → Most n (least (map (axisOf axis) ps))

@@ -3,7 +3,7 @@ use mathlib.Core.Path.{◌≡◌, refl, sym, ap}
 use mathlib.Core.List.{List, [], ◌∷◌, foldl}
 use Prim.Native.Nat.{suc}
 use lib.ListN.{length}
-use Rattle.points.specs.Bounds.{last_of}
+use Rattle.points.specs.Bounds.{lastOf}
 use Rattle.points.specs.Segments.{Between, between, segmentsFrom, segments}
 
 -- ---- how many there are
@@ -39,16 +39,16 @@ module _ {A S : Type 0} (step : S → Between A → S) where
     unfolding segmentsFrom
     rest-step s a e = ap (foldRest s a) e
 
-    pub rest_end : {rest : List A} (s : S) (a : A) → rest ≡ [] → foldRest s a rest ≡ step s (between a first)
+    pub rest-end : {rest : List A} (s : S) (a : A) → rest ≡ [] → foldRest s a rest ≡ step s (between a first)
     unfolding segmentsFrom
-    rest_end s a e = ap (foldRest s a) e
+    rest-end s a e = ap (foldRest s a) e
 
 -- ---- the last of them, a step at a time
 
-pub last_none : {A : Type 0} {ps : List A} (p : A) → ps ≡ [] → last_of p ps ≡ p
-unfolding last_of
-last_none p e = ap (last_of p) e
+pub last-none : {A : Type 0} {ps : List A} (p : A) → ps ≡ [] → lastOf p ps ≡ p
+unfolding lastOf
+last-none p e = ap (lastOf p) e
 
-pub last-next : {A : Type 0} {ps qs : List A} {q : A} (p : A) → ps ≡ q ∷ qs → last_of p ps ≡ last_of q qs
-unfolding last_of
-last-next p e = ap (last_of p) e
+pub last-next : {A : Type 0} {ps qs : List A} {q : A} (p : A) → ps ≡ q ∷ qs → lastOf p ps ≡ lastOf q qs
+unfolding lastOf
+last-next p e = ap (lastOf p) e

@@ -7,8 +7,8 @@ use Prim.Native.Nat.{ℕ, suc, ◌-◌}
 use native.Mathlib.Omega.{arith}
 use lib.Ieee.{Float}
 use Rattle.sheet.specs.Content.{Point}
-use Rattle.answers.specs.Lists.{any_of}
-use Rattle.points.specs.Bounds.{last_of}
+use Rattle.answers.specs.Lists.{anyOf}
+use Rattle.points.specs.Bounds.{lastOf}
 use Rattle.points.specs.Joins.{join, seams, joins, wide, ringOpen, every}
 
 or-false : (b : Bool) → (b || false) ≡ b
@@ -18,8 +18,8 @@ or-false false = refl
 module _ (periodic : Bool) (scaleU scaleV : Float) (more : ℕ) (first : Point) where
   -- of the joins that are left: those of the points ps after the one before them, and the ring's first to its last
   unfoldable pub openFrom : Point → ℕ → List Point → Bool
-  unfolding any_of seams every last_of
-  openFrom before left ps = any_of (wide periodic scaleU scaleV) (seams before (every more left ps) ps ++ join first (last_of before ps) ∷ [])
+  unfolding anyOf seams every lastOf
+  openFrom before left ps = anyOf (wide periodic scaleU scaleV) (seams before (every more left ps) ps ++ join first (lastOf before ps) ∷ [])
 
   pub open-start : (ps : List Point) → ringOpen periodic scaleU scaleV (every more 0 (first ∷ ps)) (first ∷ ps) ≡ openFrom first more ps
   unfolding openFrom ringOpen joins every
@@ -45,6 +45,6 @@ module _ (periodic : Bool) (scaleU scaleV : Float) (more : ℕ) (first : Point) 
   open-end before left qs e = rw e (or-false (wide periodic scaleU scaleV (join first before)))
 
 pub no-points-open : (periodic : Bool) (scaleU scaleV : Float) (os : List Bool) (ps : List Point) → ps ≡ [] → ringOpen periodic scaleU scaleV os ps ≡ false
-unfolding ringOpen joins any_of
+unfolding ringOpen joins anyOf
 no-points-open periodic scaleU scaleV [] ps e = refl
 no-points-open periodic scaleU scaleV (o ∷ os) ps e = rw e

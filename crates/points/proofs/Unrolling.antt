@@ -10,7 +10,7 @@ use lib.Seq.{drop-set-lt}
 use Rattle.sheet.specs.Content.{Point, point, pairs, flat, onPoints}
 use Rattle.points.specs.Unroll.{wrapped, moved, follow, unrolled, movedRing}
 use Rattle.points.proofs.InPlace.{Written, unwritten, point-written, all-written}
-use Rattle.points.proofs.Pairs.{pairs-step, pairs_end}
+use Rattle.points.proofs.Pairs.{pairs-step, pairs-end}
 
 -- the first point is written
 pub first-unrolled : (xs : List Float) (v d : Float) (rest : List Point) → 1 < length xs → Written (set xs 1 v) (set xs 1 v) 1 rest (point (get_or xs 0 d) v ∷ rest)
@@ -48,8 +48,8 @@ module _ (kind phase : ℕ) where
 
   -- all are written
   module _ (xs : List Float) (v₀ d : Float) (some : 1 < length xs) (e : v₀ ≡ (wrapped phase (point (get_or xs 1 d) (get_or xs 1 d))).v) where
-    whole_is : point (get_or xs 0 d) v₀ ∷ after (get_or xs 0 d) v₀ 1 (set xs 1 v₀) ≡ movedRing kind phase (pairs xs)
-    whole_is =
+    whole-is : point (get_or xs 0 d) v₀ ∷ after (get_or xs 0 d) v₀ 1 (set xs 1 v₀) ≡ movedRing kind phase (pairs xs)
+    whole-is =
         rw (drop-set-lt 2 xs 1 v₀ (omega arith)) (sym (first (get_or xs 0 d) (get_or xs 1 d) v₀ (pairs (drop 2 xs)) e))
         ∙ ap (movedRing kind phase) (sym (pairs-step xs 0 d some))
 
@@ -57,5 +57,5 @@ module _ (kind phase : ℕ) where
     unfolding onPoints follow
     all-unrolled {now} {k} u v w h =
         let n : 1 < 2 * k = omega arith in
-        all-written w (rw (drop-set-lt (2 * k) xs 1 v₀ n, pairs_end xs k (omega arith)))
-        ∙ ap₂ (λ (ps : List Point) (ys : List Float). flat ps ++ ys) whole_is (drop-set-lt (2 * k) xs 1 v₀ n ∙ ap (λ (m : ℕ). drop (2 * m) xs) h)
+        all-written w (rw (drop-set-lt (2 * k) xs 1 v₀ n, pairs-end xs k (omega arith)))
+        ∙ ap₂ (λ (ps : List Point) (ys : List Float). flat ps ++ ys) whole-is (drop-set-lt (2 * k) xs 1 v₀ n ∙ ap (λ (m : ℕ). drop (2 * m) xs) h)

@@ -9,9 +9,9 @@ use native.Mathlib.Omega.{arith}
 use lib.Ieee.{Float, nan}
 use lib.ListN.{length, get_or, drop}
 use Rattle.sheet.specs.Content.{Point, point, pairs}
-use Rattle.points.specs.Bounds.{last_of}
+use Rattle.points.specs.Bounds.{lastOf}
 use Rattle.points.specs.Segments.{Between, between, Segment, segment, segmentsFrom, segments}
-use Rattle.points.proofs.Pairs.{pairs-step, pairs_end}
+use Rattle.points.proofs.Pairs.{pairs-step, pairs-end}
 
 -- ---- each point with the one before it
 
@@ -31,8 +31,8 @@ abbrev pub pointAt : List Float → ℕ → Point
 pointAt ring k = point (get_or ring (2 * k) nan) (get_or ring (2 * k + 1) nan)
 
 -- the last point, after a first one
-last-after : (u v : Float) (rest : List Float) → last_of (point u v) (pairs rest) ≡ pointAt (u ∷ v ∷ rest) (length rest / 2)
-unfolding pairs last_of
+last-after : (u v : Float) (rest : List Float) → lastOf (point u v) (pairs rest) ≡ pointAt (u ∷ v ∷ rest) (length rest / 2)
+unfolding pairs lastOf
 last-after u v [] = refl
 last-after u v (x ∷ []) = refl
 last-after u v (x ∷ y ∷ rest) =
@@ -43,7 +43,7 @@ last-after u v (x ∷ y ∷ rest) =
 none : (n : ℕ) → 1 < n → n < 2 → ⊥
 none n h k = omega arith
 
-pub last-point : (ring : List Float) → 1 < length ring → last_of (pointAt ring 0) (pairs (drop (2 * 1) ring)) ≡ pointAt ring (length ring / 2 - 1)
+pub last-point : (ring : List Float) → 1 < length ring → lastOf (pointAt ring 0) (pairs (drop (2 * 1) ring)) ≡ pointAt ring (length ring / 2 - 1)
 last-point [] h = absurd (none 0 h (omega arith))
 last-point (u ∷ []) h = absurd (none 1 h (omega arith))
 last-point (u ∷ v ∷ rest) h = let e : suc (suc (length rest)) / 2 - 1 ≡ length rest / 2 = omega arith in rw e (last-after u v rest)
@@ -52,24 +52,24 @@ last-point (u ∷ v ∷ rest) h = let e : suc (suc (length rest)) / 2 - 1 ≡ le
 
 module _ (ring : List Float) where
   -- no point
-  pub walk_none : length ring / 2 ≡ 0 → pairs ring ≡ []
-  walk_none h = pairs_end ring 0 (omega arith)
+  pub walk-none : length ring / 2 ≡ 0 → pairs ring ≡ []
+  walk-none h = pairs-end ring 0 (omega arith)
 
   -- a first point
-  pub walk_start : 1 < length ring → pairs ring ≡ pointAt ring 0 ∷ pairs (drop (2 * 1) ring)
-  walk_start h = pairs-step ring 0 nan h
+  pub walk-start : 1 < length ring → pairs ring ≡ pointAt ring 0 ∷ pairs (drop (2 * 1) ring)
+  walk-start h = pairs-step ring 0 nan h
 
   module _ (end : List Point) where
     -- what is left when a is the point before place k
     abbrev pub walk : Point → ℕ → List Segment
     walk a k = edges a (pairs (drop (2 * k) ring) ++ end)
 
-    pub walk_step : (a : Point) (k : ℕ) → 2 * k + 1 < length ring → walk a k ≡ segment a (pointAt ring k) ∷ walk (pointAt ring k) (k + 1)
+    pub walk-step : (a : Point) (k : ℕ) → 2 * k + 1 < length ring → walk a k ≡ segment a (pointAt ring k) ∷ walk (pointAt ring k) (k + 1)
     unfolding edges
-    walk_step a k h = ap (λ (ps : List Point). edges a (ps ++ end)) (pairs-step ring k nan h)
+    walk-step a k h = ap (λ (ps : List Point). edges a (ps ++ end)) (pairs-step ring k nan h)
 
-    pub walk_end : (a : Point) (k : ℕ) → length ring / 2 ≤ k → walk a k ≡ edges a end
-    walk_end a k h = ap (λ (ps : List Point). edges a (ps ++ end)) (pairs_end ring k h)
+    pub walk-end : (a : Point) (k : ℕ) → length ring / 2 ≤ k → walk a k ≡ edges a end
+    walk-end a k h = ap (λ (ps : List Point). edges a (ps ++ end)) (pairs-end ring k h)
 
   -- ---- from the first point and back to it: the segments
 
@@ -78,20 +78,20 @@ module _ (ring : List Float) where
 
   pub left-start : 1 < length ring → segments (pairs ring) ≡ left (pointAt ring 0) 1
   unfolding segments
-  left-start h = ap segments (walk_start h) ∙ segments-are (pointAt ring 0) (pointAt ring 0) (pairs (drop (2 * 1) ring))
+  left-start h = ap segments (walk-start h) ∙ segments-are (pointAt ring 0) (pointAt ring 0) (pairs (drop (2 * 1) ring))
 
-  pub left_end : (a : Point) (k : ℕ) → length ring / 2 ≤ k → left a k ≡ segment a (pointAt ring 0) ∷ []
+  pub left-end : (a : Point) (k : ℕ) → length ring / 2 ≤ k → left a k ≡ segment a (pointAt ring 0) ∷ []
   unfolding edges
-  left_end a k h = walk_end (pointAt ring 0 ∷ []) a k h
+  left-end a k h = walk-end (pointAt ring 0 ∷ []) a k h
 
   -- ---- from the last point, before the first
 
-  pub back_start : 1 < length ring → edges (last_of (pointAt ring 0) (pairs (drop (2 * 1) ring))) (pairs ring) ≡ walk [] (pointAt ring (length ring / 2 - 1)) 0
-  back_start h = ap₂ edges (last-point ring h) (sym (append-nil (pairs ring)))
+  pub back-start : 1 < length ring → edges (lastOf (pointAt ring 0) (pairs (drop (2 * 1) ring))) (pairs ring) ≡ walk [] (pointAt ring (length ring / 2 - 1)) 0
+  back-start h = ap₂ edges (last-point ring h) (sym (append-nil (pairs ring)))
 
-  pub back_end : (a : Point) (k : ℕ) → length ring / 2 ≤ k → walk [] a k ≡ []
+  pub back-end : (a : Point) (k : ℕ) → length ring / 2 ≤ k → walk [] a k ≡ []
   unfolding edges
-  back_end a k h = walk_end [] a k h
+  back-end a k h = walk-end [] a k h
 
 -- ---- a fold that adds up, from any start
 

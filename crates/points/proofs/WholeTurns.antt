@@ -11,8 +11,8 @@ use lib.Ieee.Positive.{positive}
 use lib.Ieee.Scale.{finite}
 use Rattle.leaves.specs.Constants.{plusZero}
 use Rattle.leaves.specs.Round.{roundOf}
-use Rattle.leaves.proofs.Order.{eq→le, eq-sym, le_trans, same-nonzero}
-use Rattle.leaves.proofs.Monotone.{add-mono-second, div_mono, mul_mono, sub-mono}
+use Rattle.leaves.proofs.Order.{eq→le, eq-sym, le-trans, same-nonzero}
+use Rattle.leaves.proofs.Monotone.{add-mono-second, div-mono, mul-mono, sub-mono}
 use Rattle.leaves.proofs.Wholes.{f64-round-mono}
 use Rattle.points.specs.Turns.{turns}
 
@@ -20,11 +20,11 @@ use Rattle.points.specs.Turns.{turns}
 
 -- the number of turns
 count-mono : (x y period : Float) → T (positive period) → T (le x y) → T (le (roundOf (div binary64 x period)) (roundOf (div binary64 y period)))
-count-mono x y period h l = f64-round-mono (div binary64 x period) (div binary64 y period) (div_mono binary64 x y period h l)
+count-mono x y period h l = f64-round-mono (div binary64 x period) (div binary64 y period) (div-mono binary64 x y period h l)
 
 pub turns-mono : (x y period : Float) → T (positive period) → T (le x y) → T (le (turns x period) (turns y period))
 unfolding turns
-turns-mono x y period h l = mul_mono binary64 (roundOf (div binary64 x period)) (roundOf (div binary64 y period)) period h (count-mono x y period h l)
+turns-mono x y period h l = mul-mono binary64 (roundOf (div binary64 x period)) (roundOf (div binary64 y period)) period h (count-mono x y period h l)
 
 pub turns-fits : (x period : Float) → T (fits binary64 (turns x period))
 unfolding turns
@@ -35,7 +35,7 @@ squeezed : (move : Float → Float) → ((x y : Float) → T (le x y) → T (le 
     → (lo x hi : Float) → T (le lo x) → T (le x hi) → T (eq (move lo) (move hi)) → T (not (eq (move lo) plusZero)) → move x ≡ move lo
 squeezed move up fit lo x hi l k e n =
     same-nonzero binary64 (move lo) (move x) (fit lo) (fit x) n (up lo x l)
-    (le_trans binary64 (move x) (move hi) (move lo) (fit x) (fit hi) (fit lo) (up x hi k) (eq→le (move hi) (move lo) (eq-sym (move lo) (move hi) e)))
+    (le-trans binary64 (move x) (move hi) (move lo) (fit x) (fit hi) (fit lo) (up x hi k) (eq→le (move hi) (move lo) (eq-sym (move lo) (move hi) e)))
 
 -- ---- copies
 

@@ -30,11 +30,11 @@ boxOf ps = record {
 }
 
 -- the last of one and those after it
-unfoldable pub last_of : {A : Type 0} → A → List A → A
-last_of p [] = p
-last_of p (q ∷ qs) = last_of q qs
+unfoldable pub lastOf : {A : Type 0} → A → List A → A
+lastOf p [] = p
+lastOf p (q ∷ qs) = lastOf q qs
 
 unfoldable pub goesAround : List Point → Bool
-unfolding last_of sub
+unfolding lastOf sub
 goesAround [] = false
-goesAround (p ∷ ps) = exceedsOf (sub binary64 p.u (last_of p ps).u) pi
+goesAround (p ∷ ps) = exceedsOf (sub binary64 p.u (lastOf p ps).u) pi

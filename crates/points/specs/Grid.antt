@@ -6,14 +6,14 @@ use Rattle.std.specs.Float.Ieee.{of_bits, of_int, div}
 use Rattle.sheet.specs.Content.{Point, point}
 
 -- n numbers from i on
-unfoldable pub up_from : ℕ → ℕ → List ℕ
-up_from i zero = []
-up_from i (suc n) = i ∷ up_from (i + 1) n
+unfoldable pub upFrom : ℕ → ℕ → List ℕ
+upFrom i zero = []
+upFrom i (suc n) = i ∷ upFrom (i + 1) n
 
 -- 1 to 31
 unfoldable pub lines : List ℕ
-unfolding up_from
-lines = up_from 1 31
+unfolding upFrom
+lines = upFrom 1 31
 
 abbrev pub thirtyTwo : Float
 thirtyTwo = of_bits binary64 0x4040000000000000

@@ -6,8 +6,8 @@ use Rattle.std.specs.Float.Ieee.{sub, div, lt}
 use Rattle.leaves.specs.Constants.{tau, joinLimit}
 use Rattle.leaves.specs.Hypot.{hypotOf}
 use Rattle.sheet.specs.Content.{Point, Coedge}
-use Rattle.answers.specs.Lists.{any_of}
-use Rattle.points.specs.Bounds.{last_of}
+use Rattle.answers.specs.Lists.{anyOf}
+use Rattle.points.specs.Bounds.{lastOf}
 use Rattle.points.specs.Turns.{turns}
 
 -- ---- "Joins: each coedge's first point to the point before it; each ring's first to its last"
@@ -38,10 +38,10 @@ seams before (false ∷ os) (p ∷ ps) = seams p os ps
 
 -- a ring's first point has none with a point before it
 unfoldable pub joins : List Bool → List Point → List Join
-unfolding seams last_of
+unfolding seams lastOf
 joins [] ps = []
 joins (o ∷ os) [] = []
-joins (o ∷ os) (p ∷ ps) = seams p os ps ++ join p (last_of p ps) ∷ []
+joins (o ∷ os) (p ∷ ps) = seams p os ps ++ join p (lastOf p ps) ∷ []
 
 -- ---- "Join: difference in u (periodic: less round(difference/TAU) × TAU) over u scale, in v over v scale; hypot of
 -- the two"
@@ -60,8 +60,8 @@ unfolding lt gap
 wide periodic scaleU scaleV j = lt joinLimit (gap periodic scaleU scaleV j)
 
 unfoldable pub ringOpen : Bool → Float → Float → List Bool → List Point → Bool
-unfolding any_of wide joins
-ringOpen periodic scaleU scaleV os ps = any_of (wide periodic scaleU scaleV) (joins os ps)
+unfolding anyOf wide joins
+ringOpen periodic scaleU scaleV os ps = anyOf (wide periodic scaleU scaleV) (joins os ps)
 
 -- `opens` of a ring whose coedges have `more` points each after their first; `left` points follow before the next
 -- coedge's first

@@ -1,10 +1,10 @@
 // Rule 6: the grid's lines.
 ghost use Rattle.std.specs.Prelude.{◌≡◌};
-ghost use Rattle.points.specs.Grid.{part as part_of};
+ghost use Rattle.points.specs.Grid.{part as partOf};
 
 // i/32.
 pub fn part(i: u32) -> f64
-    ensures { result ≡ part_of i }
+    ensures { result ≡ partOf i }
 {
     (i as f64) / 32.0
 }

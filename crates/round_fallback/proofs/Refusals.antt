@@ -13,8 +13,8 @@ use lib.ListN.{length}
 use Rattle.leaves.specs.Constants.{plusZero, micro}
 use Rattle.answers.specs.Outcome.{check, first, refused, settled, OneOf}
 use Rattle.answers.proofs.AnyOf.{neither}
-use Rattle.answers.proofs.FirstCheck.{first_holds}
-use Rattle.answers.proofs.Settled.{settled_here, settled-later, settled-empty, settled-zeros, settled-holds}
+use Rattle.answers.proofs.FirstCheck.{first-holds}
+use Rattle.answers.proofs.Settled.{settled-here, settled-later, settled-empty, settled-zeros, settled-holds}
 use Rattle.answers.specs.Answers.{valued, middlePaper}
 use Rattle.answers.specs.declared.outcomes.MiddleAnswer.TheVariants.{Refused}
 use Rattle.answers.proofs.Papers.{paper-no-middle}
@@ -26,7 +26,7 @@ module _ (heights angles : List Float) where
 
   pub round-refused : roundWrong heights angles ≡ true → middlePaper (Refused 16) ≡ cylinderPointOf heights angles
   unfolding cylinderPointOf
-  round-refused e = paper-no-middle 16 ∙ sym (settled_here 16 (omega arith) (roundWrong heights angles) (check 22 (heightsWrong heights angles) ∷ []) (middleAmong heights (cornerAngles angles)) e)
+  round-refused e = paper-no-middle 16 ∙ sym (settled-here 16 (omega arith) (roundWrong heights angles) (check 22 (heightsWrong heights angles) ∷ []) (middleAmong heights (cornerAngles angles)) e)
 
   module _ (passed : roundWrong heights angles ≡ false) where
     past-16 : cylinderPointOf heights angles ≡ settled (first (check 22 (heightsWrong heights angles) ∷ [])) (middleAmong heights (cornerAngles angles))
@@ -34,7 +34,7 @@ module _ (heights angles : List Float) where
     past-16 = settled-later 16 (roundWrong heights angles) (check 22 (heightsWrong heights angles) ∷ []) (middleAmong heights (cornerAngles angles)) passed
 
     pub heights-refused : heightsWrong heights angles ≡ true → middlePaper (Refused 22) ≡ cylinderPointOf heights angles
-    heights-refused e = paper-no-middle 22 ∙ sym (past-16 ∙ settled_here 22 (omega arith) (heightsWrong heights angles) [] (middleAmong heights (cornerAngles angles)) e)
+    heights-refused e = paper-no-middle 22 ∙ sym (past-16 ∙ settled-here 22 (omega arith) (heightsWrong heights angles) [] (middleAmong heights (cornerAngles angles)) e)
 
     pub round-passed : heightsWrong heights angles ≡ false → middleAmong heights (cornerAngles angles) ≡ cylinderPointOf heights angles
     round-passed e = sym (past-16 ∙ settled-later 22 (heightsWrong heights angles) [] (middleAmong heights (cornerAngles angles)) e ∙ settled-empty (middleAmong heights (cornerAngles angles)))
@@ -68,10 +68,10 @@ module _ (heights angles : List Float) where
   unfolding middleAmong
   middle-status =
       settled-holds (OneOf statuses) (first (check 23 (unclear (cornerAngles angles)) ∷ [])) (valued (middleAngle (cornerAngles angles)) (middleHeight heights) plusZero)
-      (first_holds (OneOf statuses) (inl refl) (check 23 (unclear (cornerAngles angles)) ∷ []) (inr (inr (inr (inl refl))), tt)) (inl refl)
+      (first-holds (OneOf statuses) (inl refl) (check 23 (unclear (cornerAngles angles)) ∷ []) (inr (inr (inr (inl refl))), tt)) (inl refl)
 
   pub cylinder-status : OneOf statuses (cylinderPointOf heights angles).status
   unfolding cylinderPointOf
   cylinder-status =
       settled-holds (OneOf statuses) (first (check 16 (roundWrong heights angles) ∷ check 22 (heightsWrong heights angles) ∷ [])) (middleAmong heights (cornerAngles angles))
-      (first_holds (OneOf statuses) (inl refl) (check 16 (roundWrong heights angles) ∷ check 22 (heightsWrong heights angles) ∷ []) (inr (inl refl), (inr (inr (inl refl)), tt))) middle-status
+      (first-holds (OneOf statuses) (inl refl) (check 16 (roundWrong heights angles) ∷ check 22 (heightsWrong heights angles) ∷ []) (inr (inl refl), (inr (inr (inl refl)), tt))) middle-status

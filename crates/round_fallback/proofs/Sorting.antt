@@ -18,12 +18,12 @@ use lib.Seq.{drop-cons, take-suc, split_at, set_at, length-take-le, take_all, ta
 use Rattle.leaves.specs.Constants.{one}
 use Rattle.leaves.specs.Wrap.{remTau}
 use Rattle.leaves.proofs.Folds.{All, all-perm, fold-keeps}
-use Rattle.leaves.proofs.Order.{lt-asym, eq→le, eq→not-lt, le→not-lt, not-lt→le, le_antisym, le_trans}
+use Rattle.leaves.proofs.Order.{lt-asym, eq→le, eq→not-lt, le→not-lt, not-lt→le, le-antisym, le-trans}
 use Rattle.leaves.proofs.Patterns.{one-over-number}
 use Rattle.leaves.proofs.Wraps.{rem-tau-fits, rem-tau-number}
 use Rattle.answers.specs.Limits.{beyond, argumentLimit}
-use Rattle.answers.specs.Lists.{any_of}
-use Rattle.answers.proofs.AnyOf.{neither, any_false}
+use Rattle.answers.specs.Lists.{anyOf}
+use Rattle.answers.proofs.AnyOf.{neither, any-false}
 use Rattle.answers.proofs.Finite.{not-beyond-finite}
 use Rattle.round_fallback.specs.Cylinder.{precedes, insertOf, sortedOf, isNear, keptAfter, keptOf, cornerAngles, roundWrong}
 
@@ -42,8 +42,8 @@ unfolding insertOf
 insert-last x e = ap (insertOf x) e ∙ ap (λ (zs : List Float). x ∷ zs) (sym e)
 
 module _ (x : Float) (xs : List Float) (k : ℕ) where
-  pub place_here : k < length xs → precedes x (get_or xs k nan) ≡ true → take k xs ++ insertOf x (drop k xs) ≡ take k xs ++ x ∷ drop k xs
-  place_here h t = ap (λ (l : List Float). take k xs ++ l) (insert-here x (drop-cons xs k nan h) t)
+  pub place-here : k < length xs → precedes x (get_or xs k nan) ≡ true → take k xs ++ insertOf x (drop k xs) ≡ take k xs ++ x ∷ drop k xs
+  place-here h t = ap (λ (l : List Float). take k xs ++ l) (insert-here x (drop-cons xs k nan h) t)
 
   pub place-later : k < length xs → precedes x (get_or xs k nan) ≡ false → take k xs ++ insertOf x (drop k xs) ≡ take (k + 1) xs ++ insertOf x (drop (k + 1) xs)
   place-later h t =
@@ -135,16 +135,16 @@ sorted-perm xs = Permᴰ.trans (from-perm xs []) (Permᴰ.append-nil xs)
 -- ---- in order
 
 -- less one way (l), or level (e) and then less by the sign (d): not the other way (l', e', d')
-one_way : (l l' e e' d d' : Bool) → (T l → T l' → ⊥) → (T l → T e' → ⊥) → (T e → T l' → ⊥) → (T d → T d' → ⊥) → (l || (e && d)) ≡ true → (l' || (e' && d')) ≡ false
-one_way l true e e' d d' p q r s t = absurd (by l e d p r t)
+one-way : (l l' e e' d d' : Bool) → (T l → T l' → ⊥) → (T l → T e' → ⊥) → (T e → T l' → ⊥) → (T d → T d' → ⊥) → (l || (e && d)) ≡ true → (l' || (e' && d')) ≡ false
+one-way l true e e' d d' p q r s t = absurd (by l e d p r t)
   where
     by : (l e d : Bool) → (T l → Unit {0} → ⊥) → (T e → Unit {0} → ⊥) → (l || (e && d)) ≡ true → ⊥
     by true e d p r t = p tt tt
     by false true d p r t = r tt tt
     by false false d p r t = true≢false (sym t)
-one_way l false e false d d' p q r s t = refl
-one_way l false e true d false p q r s t = refl
-one_way l false e true d true p q r s t = absurd (by l e d q s t)
+one-way l false e false d d' p q r s t = refl
+one-way l false e true d false p q r s t = refl
+one-way l false e true d true p q r s t = absurd (by l e d q s t)
   where
     by : (l e d : Bool) → (T l → Unit {0} → ⊥) → (T d → Unit {0} → ⊥) → (l || (e && d)) ≡ true → ⊥
     by true e d q s t = q tt tt
@@ -155,7 +155,7 @@ one_way l false e true d true p q r s t = absurd (by l e d q s t)
 precedes-asym : (x y : Float) → precedes x y ≡ true → precedes y x ≡ false
 unfolding precedes
 precedes-asym x y t =
-    one_way (lt x y) (lt y x) (eq x y) (eq y x) (lt (div binary64 one x) (div binary64 one y)) (lt (div binary64 one y) (div binary64 one x))
+    one-way (lt x y) (lt y x) (eq x y) (eq y x) (lt (div binary64 one x) (div binary64 one y)) (lt (div binary64 one y) (div binary64 one x))
     (lt-asym x y)
     (λ l e. T_not (lt x y) (eq→not-lt y x e) l)
     (λ e l. T_not (lt y x) (eq→not-lt x y e) l)
@@ -196,18 +196,18 @@ precedes-not-trans x y z hx hy hz p q =
     let q' = parts (lt z y) (eq z y) (lt (over z) (over y)) q in
     let xy : T (le x y) = not-lt→le y x hy.1 hx.1 p'.0 in
     let yz : T (le y z) = not-lt→le z y hz.1 hy.1 q'.0 in
-    whole (lt z x) (eq z x) (lt (over z) (over x)) (le→not-lt x z (le_trans binary64 x y z hx.0 hy.0 hz.0 xy yz))
+    whole (lt z x) (eq z x) (lt (over z) (over x)) (le→not-lt x z (le-trans binary64 x y z hx.0 hy.0 hz.0 xy yz))
     (λ e.
     let zx : T (le z x) = eq→le z x e in
-    let yx : T (eq y x) = le_antisym y x (le_trans binary64 y z x hy.0 hz.0 hx.0 yz zx) xy in
-    let zy : T (eq z y) = le_antisym z y (le_trans binary64 z x y hz.0 hx.0 hy.0 zx xy) yz in
+    let yx : T (eq y x) = le-antisym y x (le-trans binary64 y z x hy.0 hz.0 hx.0 yz zx) xy in
+    let zy : T (eq z y) = le-antisym z y (le-trans binary64 z x y hz.0 hx.0 hy.0 zx xy) yz in
     le→not-lt (over x) (over z)
-    (le_trans binary64 (over x) (over y) (over z) (held x) (held y) (held z)
+    (le-trans binary64 (over x) (over y) (over z) (held x) (held y) (held z)
     (not-lt→le (over y) (over x) (one-over-number y hy.1) (one-over-number x hx.1) (p'.1 yx))
     (not-lt→le (over z) (over y) (one-over-number z hz.1) (one-over-number y hy.1) (q'.1 zy))))
 
-insert_all : (Q : Float → Type 0) (x : Float) (ys : List Float) → Q x → All Q ys → All Q (insertOf x ys)
-insert_all Q x ys p h = all-perm Q (Permᴰ.symm (insert-perm x ys)) (p, h)
+insert-all : (Q : Float → Type 0) (x : Float) (ys : List Float) → Q x → All Q ys → All Q (insertOf x ys)
+insert-all Q x ys p h = all-perm Q (Permᴰ.symm (insert-perm x ys)) (p, h)
 
 insert-ordered : (x : Float) (ys : List Float) → Numeric x → All Numeric ys → Ordered ys → Ordered (insertOf x ys)
 unfolding insertOf
@@ -221,13 +221,13 @@ insert-ordered x (y ∷ ys) n ns h = by (precedes x y) refl (insert-ordered x ys
 
     by : (b : Bool) → precedes x y ≡ b → Ordered (insertOf x ys) → Ordered (cond b (x ∷ y ∷ ys) (y ∷ insertOf x ys))
     by true e k = let f = precedes-asym x y e in ((f, past f ys ns.1 h.0), h)
-    by false e k = (insert_all (λ (z : Float). precedes z y ≡ false) x ys e h.0, k)
+    by false e k = (insert-all (λ (z : Float). precedes z y ≡ false) x ys e h.0, k)
 
 pub sorted-ordered : (xs : List Float) → All Numeric xs → Ordered (sortedOf xs)
 unfolding sortedOf
 sorted-ordered xs h =
     (fold-keeps (λ (zs : List Float) (x : Float). insertOf x zs) (λ (zs : List Float). All Numeric zs × Ordered zs) Numeric
-    (λ zs x p n. (insert_all Numeric x zs n p.0, insert-ordered x zs n p.0 p.1))
+    (λ zs x p n. (insert-all Numeric x zs n p.0, insert-ordered x zs n p.0 p.1))
     xs h [] (tt, tt)).1
 
 -- ---- the corner angles of a call
@@ -267,7 +267,7 @@ module _ (heights angles : List Float) (passed : roundWrong heights angles ≡ f
   -- where 16 does not hold
   pub turned-numeric : All Numeric (map remTau angles)
   unfolding roundWrong
-  turned-numeric = turned angles (any_false (beyond argumentLimit) angles (neither (any_of (beyond argumentLimit) heights) (any_of (beyond argumentLimit) angles) passed).1)
+  turned-numeric = turned angles (any-false (beyond argumentLimit) angles (neither (anyOf (beyond argumentLimit) heights) (anyOf (beyond argumentLimit) angles) passed).1)
 
   pub corners-ordered : Ordered (cornerAngles angles)
   unfolding cornerAngles

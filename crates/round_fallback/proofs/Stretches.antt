@@ -10,7 +10,7 @@ use lib.Ieee.{Float, nan, binary64, add, lt}
 use lib.ListN.{length, get_or, take, drop, set, drop_of_length-le}
 use lib.Seq.{drop-cons, take-suc-set}
 use Rattle.leaves.specs.Constants.{plusZero, pi, micro}
-use Rattle.answers.proofs.Settled.{settled_here, settled-later, settled-empty}
+use Rattle.answers.proofs.Settled.{settled-here, settled-later, settled-empty}
 use Rattle.points.proofs.RingFolds.{foldRest, rest-none, rest-start}
 use Rattle.answers.specs.Answers.{valued, middlePaper}
 use Rattle.answers.specs.declared.outcomes.MiddleAnswer.TheVariants.{Middle, Refused}
@@ -30,14 +30,14 @@ kept-first xs kept h room = rw (take-suc-set kept 0 (get_or xs 0 nan) room) (sym
 
 module _ (xs kept : List Float) (last : Float) (count k : ℕ) (h : k < length xs) where
   -- one that is near the last one is not
-  pub kept_near : isNear (get_or xs k nan) last ≡ true → take count kept ++ keptAfter last (drop k xs) ≡ take count kept ++ keptAfter last (drop (k + 1) xs)
+  pub kept-near : isNear (get_or xs k nan) last ≡ true → take count kept ++ keptAfter last (drop k xs) ≡ take count kept ++ keptAfter last (drop (k + 1) xs)
   unfolding keptAfter
-  kept_near near = rw (add-one, drop-cons xs k nan h, near)
+  kept-near near = rw (add-one, drop-cons xs k nan h, near)
 
-  pub kept_next : count < length kept → isNear (get_or xs k nan) last ≡ false
+  pub kept-next : count < length kept → isNear (get_or xs k nan) last ≡ false
       → take count kept ++ keptAfter last (drop k xs) ≡ take (count + 1) (set kept count (get_or xs k nan)) ++ keptAfter (get_or xs k nan) (drop (k + 1) xs)
   unfolding keptAfter
-  kept_next room far = rw (add-one k, add-one count, take-suc-set kept count (get_or xs k nan) room, append_assoc, drop-cons xs k nan h, far)
+  kept-next room far = rw (add-one k, add-one count, take-suc-set kept count (get_or xs k nan) room, append_assoc, drop-cons xs k nan h, far)
 
 pub kept-end : (xs kept : List Float) (last : Float) (count k : ℕ) → length xs ≤ k → take count kept ++ keptAfter last (drop k xs) ≡ take count kept
 unfolding keptAfter
@@ -77,4 +77,4 @@ module _ (heights angles : List Float) where
 
   pub middle-unclear : (length angles ≡ 1 → ⊥) → lt (add binary64 pi micro) (widestOf angles).gap ≡ false → middlePaper (Refused 23) ≡ middleAmong heights angles
   unfolding unclear middleAmong
-  middle-unclear more short = paper-no-middle 23 ∙ sym (settled_here 23 (omega arith) (unclear angles) [] (valued (middleAngle angles) (middleHeight heights) plusZero) (rw (ne_eqb (length angles) 1 more, short)))
+  middle-unclear more short = paper-no-middle 23 ∙ sym (settled-here 23 (omega arith) (unclear angles) [] (valued (middleAngle angles) (middleHeight heights) plusZero) (rw (ne_eqb (length angles) 1 more, short)))

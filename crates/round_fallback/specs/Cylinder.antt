@@ -9,7 +9,7 @@ use Rattle.leaves.specs.Constants.{plusZero, pi, tau, micro, one}
 use Rattle.leaves.specs.Wrap.{remTau}
 use Rattle.answers.specs.Outcome.{check, first, Numbers, settled}
 use Rattle.answers.specs.Limits.{beyond, argumentLimit}
-use Rattle.answers.specs.Lists.{any_of}
+use Rattle.answers.specs.Lists.{anyOf}
 use Rattle.points.specs.Bounds.{least, greatest}
 use Rattle.points.specs.Segments.{two, middle, Between, segments}
 use Rattle.answers.specs.Answers.{valued}
@@ -18,7 +18,7 @@ use Rattle.round_fallback.specs.declared.cylinder.Stretch.{Stretch}
 -- ---- 16 and 22
 
 unfoldable pub roundWrong : List Float → List Float → Bool
-roundWrong heights angles = any_of (beyond argumentLimit) heights || any_of (beyond argumentLimit) angles
+roundWrong heights angles = anyOf (beyond argumentLimit) heights || anyOf (beyond argumentLimit) angles
 
 abbrev pub mostOfEither : ℕ
 mostOfEither = 256
@@ -72,16 +72,16 @@ cornerAngles angles = keptOf (sortedOf (map remTau angles))
 -- ---- "The empty stretches between neighbouring corner angles, going round", and the widest, the first of equal ones
 
 -- of n angles, from one to the next
-unfoldable pub gap_of : ℕ → Between Float → Float
+unfoldable pub gapOf : ℕ → Between Float → Float
 unfolding sub
-gap_of n s = cond (eqb n 1) tau (remTau (sub binary64 s.b s.a))
+gapOf n s = cond (eqb n 1) tau (remTau (sub binary64 s.b s.a))
 
 abbrev pub stretch : Float → Float → Stretch
 stretch gap from = record { gap = gap; from = from }
 
 unfoldable pub wider : ℕ → Stretch → Between Float → Stretch
-unfolding lt gap_of
-wider n best s = cond (lt best.gap (gap_of n s)) (stretch (gap_of n s) s.a) best
+unfolding lt gapOf
+wider n best s = cond (lt best.gap (gapOf n s)) (stretch (gapOf n s) s.a) best
 
 unfoldable pub widestOf : List Float → Stretch
 unfolding wider

@@ -4,7 +4,7 @@ ghost use Rattle.leaves.specs.Wrap.{remTau};
 ghost use Rattle.points.specs.Bounds.{least, greatest};
 ghost use Rattle.points.specs.Segments.{between};
 ghost use Rattle.answers.specs.Answers.{middlePaper, isMiddle};
-ghost use Rattle.round_fallback.specs.Cylinder.{roundWrong, heightsWrong, precedes as precedesOf, insertOf, sortedOf, isNear, keptOf, cornerAngles, gap_of, wider as widerOf, widestOf, opposite as oppositeOf, middleHeight, middleAmong, cylinderPointOf};
+ghost use Rattle.round_fallback.specs.Cylinder.{roundWrong, heightsWrong, precedes as precedesOf, insertOf, sortedOf, isNear, keptOf, cornerAngles, gapOf, wider as widerOf, widestOf, opposite as oppositeOf, middleHeight, middleAmong, cylinderPointOf};
 
 use answers::{ARGUMENT_LIMIT, MiddleAnswer, any_number_beyond};
 use leaves::constants::{MICRO, PI, TAU};
@@ -161,7 +161,7 @@ fn keep(sorted: &[f64], kept: &mut [f64]) -> usize
 
 // The stretch from one of `count` corner angles to the next.
 fn gap(count: usize, from: f64, to: f64) -> f64
-    ensures { result ≡ gap_of count (between from to) }
+    ensures { result ≡ gapOf count (between from to) }
 {
     if count == 1 {
         TAU

@@ -34,7 +34,7 @@ not-above-first a b h =
     let e : largerOf a b ≡ cond (lt a b) b a = larger-by-test a b in
     e ∙ larger-or-first a b (lt a b) refl (sym (ap (lt a) e) ∙ h)
 
-module _ (l : Leader) (led : Led l) (least key : Float) (is_key : Key least) (is : key ≡ largerOf l.key least) where
+module _ (l : Leader) (led : Led l) (least key : Float) (isKey : Key least) (is : key ≡ largerOf l.key least) where
   pub raised-from : Raised l.key l.best.clearance key
   raised-from =
       record {
@@ -44,7 +44,7 @@ module _ (l : Leader) (led : Led l) (least key : Float) (is_key : Key least) (is
 
   -- the hypotenuse of the key is the larger of the two clearances
   clearance-is : hypotOfKey key ≡ largerOf l.best.clearance (hypotOfKey least)
-  clearance-is = ap hypotOfKey is ∙ sym (larger-hypot l.key least led.is_key is_key) ∙ ap (λ (c : Float). largerOf c (hypotOfKey least)) (sym led.clearanceIs)
+  clearance-is = ap hypotOfKey is ∙ sym (larger-hypot l.key least led.isKey isKey) ∙ ap (λ (c : Float). largerOf c (hypotOfKey least)) (sym led.clearanceIs)
 
   module _ (i j : ℕ) (d : Float) (d-is : d ≡ hypotOfKey key) (met : Candidate) (met-is : met ≡ counted (better i j d l.best)) where
     pub met-candidate : met ≡ counted (better i j (hypotOfKey least) l.best)
@@ -55,4 +55,4 @@ module _ (l : Leader) (led : Led l) (least key : Float) (is_key : Key least) (is
     met-clearance = ap (λ (c : Candidate). c.clearance) met-candidate ∙ better-clearance i j (hypotOfKey least) l.best ∙ sym clearance-is
 
     pub met-led : (last : ℕ) → Led (record { best = met; key = key; last = last })
-    met-led last = record { is_key = rw is (larger-keeps Key l.key least led.is_key is_key); clearanceIs = met-clearance }
+    met-led last = record { isKey = rw is (larger-keeps Key l.key least led.isKey isKey); clearanceIs = met-clearance }

@@ -12,7 +12,7 @@ use lib.Seq.{get_or-set_same, get_or-set_other, get_or-take, get_or-drop, ext_ge
 use Rattle.sheet.specs.Content.{point, flat}
 use Rattle.points.specs.Grid.{part}
 use Rattle.points.specs.Segments.{segment}
-use Rattle.search.specs.Copies.{ends_at, Serving, Ready}
+use Rattle.search.specs.Copies.{endsAt, Serving, Ready}
 use Rattle.clearance.specs.Clearance.{shiftedTo}
 use Rattle.clearance.specs.SegmentLists.{endsOf, segmentsIn, segmentAt}
 use Rattle.search.specs.declared.copies.CopyEnds.{CopyEnds}
@@ -21,14 +21,14 @@ use Rattle.clearance.proofs.SegmentsRead.{segments-at, segments-length}
 
 -- ---- one copy
 
-pub copy-put : (period u a av b bv : Float) (ends : CopyEnds) (ys : List Float) → ends ≡ ends_at period u a b → ys ≡ flat (endsOf (segment (point ends.a av) (point ends.b bv) ∷ []))
+pub copy-put : (period u a av b bv : Float) (ends : CopyEnds) (ys : List Float) → ends ≡ endsAt period u a b → ys ≡ flat (endsOf (segment (point ends.a av) (point ends.b bv) ∷ []))
     → segmentAt ys 0 ≡ shiftedTo period u (segment (point a av) (point b bv))
 unfolding flat endsOf shiftedTo
 copy-put period u a av b bv ends ys e is = ap (λ (l : List Float). segmentAt l 0) is ∙ ap (λ (x : CopyEnds). segment (point x.a av) (point x.b bv)) e
 
 -- the copy in place k, as a part
-pub part_of : (copies : List Float) (k : ℕ) → 4 * k + 4 ≤ length copies → segmentAt (take (4 * k + 4 - 4 * k) (drop (4 * k) copies)) 0 ≡ segmentAt copies k
-part_of copies k room =
+pub part-of : (copies : List Float) (k : ℕ) → 4 * k + 4 ≤ length copies → segmentAt (take (4 * k + 4 - 4 * k) (drop (4 * k) copies)) 0 ≡ segmentAt copies k
+part-of copies k room =
     let n = 4 * k + 4 - 4 * k in
     let e : 4 * k + 0 ≡ 4 * k = omega arith in
     let at : (i : ℕ) → i < 4 → get_or (take n (drop (4 * k) copies)) i nan ≡ get_or copies (4 * k + i) nan = λ i h. get_or-take n (drop (4 * k) copies) i nan (omega arith) ∙ get_or-drop (4 * k) copies i nan in

@@ -16,16 +16,16 @@ use Rattle.sheet.specs.Content.{point}
 use Rattle.points.specs.Segments.{middle, segment}
 use Rattle.points.specs.Grid.{part}
 use Rattle.points.specs.Turns.{keepsOrder}
-use Rattle.points.proofs.ColumnOrder.{finite-of, holds, numbers as order-numbers, part_up}
+use Rattle.points.proofs.ColumnOrder.{finite-of, holds, numbers as order-numbers, part-up}
 use Rattle.points.proofs.WholeTurns.{moved-squeeze}
-use Rattle.search.specs.Copies.{ends_at, sameEnds, regular, Serves}
+use Rattle.search.specs.Copies.{endsAt, sameEnds, regular, Serves}
 use Rattle.clearance.specs.Clearance.{shiftedTo}
 use Rattle.search.specs.declared.copies.CopyEnds.{CopyEnds}
 
 -- ---- the ends of a copy
 
-pub ends-are : (period a b : Float) {u u' : Float} → u ≡ u' → (x : CopyEnds) → (x.a ≡ (ends_at period u a b).a) × (x.b ≡ (ends_at period u a b).b) → x ≡ ends_at period u' a b
-ends-are period a b {u} e x h = ap₂ {C = CopyEnds} (λ (p q : Float). record { a = p; b = q }) h.0 h.1 ∙ ap (λ (y : Float). ends_at period y a b) e
+pub ends-are : (period a b : Float) {u u' : Float} → u ≡ u' → (x : CopyEnds) → (x.a ≡ (endsAt period u a b).a) × (x.b ≡ (endsAt period u a b).b) → x ≡ endsAt period u' a b
+ends-are period a b {u} e x h = ap₂ {C = CopyEnds} (λ (p q : Float). record { a = p; b = q }) h.0 h.1 ∙ ap (λ (y : Float). endsAt period y a b) e
 
 -- ---- between two columns
 
@@ -54,18 +54,18 @@ module _ (period a b : Float) (reg : regular period a b ≡ true) where
         centre = o.centre;
       }
 
-  pub served-between : (i t : ℕ) → sameEnds (ends_at period (part i) a b) (ends_at period (part t) a b) ≡ true → Serves period i t a b
+  pub served-between : (i t : ℕ) → sameEnds (endsAt period (part i) a b) (endsAt period (part t) a b) ≡ true → Serves period i t a b
   unfolding sameEnds shiftedTo
   served-between i t e v w m h k =
       let n = numbers in
-      let x = ends_at period (part i) a b in
-      let y = ends_at period (part t) a b in
+      let x = endsAt period (part i) a b in
+      let y = endsAt period (part t) a b in
       let s = holds (sameEnds x y) e in
       let s₁ = and_r (eq x.a y.a) _ s in
       let s₂ = and_r (eq x.b y.b) _ s₁ in
       ap₂ (λ (p q : Float). segment (point p v) (point q w))
-      (moved-squeeze period mid a n.above n.centre n.start (part i) (part m) (part t) (part_up i m h) (part_up m t k) (and_l (eq x.a y.a) _ s) (and_l (not (eq x.a plusZero)) _ s₂))
-      (moved-squeeze period mid b n.above n.centre n.end (part i) (part m) (part t) (part_up i m h) (part_up m t k) (and_l (eq x.b y.b) _ s₁) (and_r (not (eq x.a plusZero)) _ s₂))
+      (moved-squeeze period mid a n.above n.centre n.start (part i) (part m) (part t) (part-up i m h) (part-up m t k) (and_l (eq x.a y.a) _ s) (and_l (not (eq x.a plusZero)) _ s₂))
+      (moved-squeeze period mid b n.above n.centre n.end (part i) (part m) (part t) (part-up i m h) (part-up m t k) (and_l (eq x.b y.b) _ s₁) (and_r (not (eq x.a plusZero)) _ s₂))
 
 -- a copy serves at its own column
 pub served-here : (period a b : Float) (i : ℕ) → Serves period i i a b

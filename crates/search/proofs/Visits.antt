@@ -10,20 +10,20 @@ use lib.Dec.{T}
 use lib.Ieee.{Float, lt}
 use Rattle.leaves.specs.Bounds.{largerOf}
 use Rattle.leaves.proofs.Choices.{larger-by-test}
-use Rattle.leaves.proofs.Order.{lt_irrefl}
-use Rattle.points.specs.Grid.{up_from, lines}
+use Rattle.leaves.proofs.Order.{lt-irrefl}
+use Rattle.points.specs.Grid.{upFrom, lines}
 use Rattle.search.specs.Search.{start, better, counted, countedPoint, tallied, visit, column, search}
 use Rattle.search.specs.declared.candidate.Candidate.{Candidate}
-use Rattle.points.proofs.GridOrder.{up_step, up-end}
+use Rattle.points.proofs.GridOrder.{up-step, up-end}
 
 -- ---- the larger of two clearances
 
-not_so : (t : Bool) → (T t → ⊥) → t ≡ false
-not_so true h = absurd (h tt)
-not_so false h = refl
+not-so : (t : Bool) → (T t → ⊥) → t ≡ false
+not-so true h = absurd (h tt)
+not-so false h = refl
 
 not-less : (x : Float) → lt x x ≡ false
-not-less x = not_so (lt x x) (lt_irrefl x)
+not-less x = not-so (lt x x) (lt-irrefl x)
 
 module _ (i j : ℕ) (x : Float) (best : Candidate) where
   by-test : (t : Bool) → lt best.clearance x ≡ t → better i j (largerOf best.clearance x) best ≡ better i j x best
@@ -81,28 +81,28 @@ module _ (covers : ℕ → ℕ → Bool) (clears : ℕ → ℕ → Float) where
 
   -- the column i from j on
   abbrev pub columnFrom : ℕ → Candidate → ℕ → Candidate
-  columnFrom i best j = foldl (visit covers clears i) best (up_from j (32 - j))
+  columnFrom i best j = foldl (visit covers clears i) best (upFrom j (32 - j))
 
   pub column-start : (i : ℕ) (best : Candidate) → columnFrom i best 1 ≡ column covers clears best i
   unfolding column lines
   column-start i best = refl
 
   pub column-step : (i : ℕ) (best : Candidate) (j : ℕ) → j < 32 → columnFrom i best j ≡ columnFrom i (visit covers clears i best j) (j + 1)
-  column-step i best j h = rw (up_step j 32 h)
+  column-step i best j h = rw (up-step j 32 h)
 
   pub column-end : (i : ℕ) (best : Candidate) (j : ℕ) → 32 ≤ j → columnFrom i best j ≡ best
   column-end i best j h = rw (up-end j 32 h)
 
   -- the grid from i on
   abbrev pub searchFrom : Candidate → ℕ → Candidate
-  searchFrom best i = foldl (column covers clears) best (up_from i (32 - i))
+  searchFrom best i = foldl (column covers clears) best (upFrom i (32 - i))
 
   pub search-start : searchFrom start 1 ≡ search covers clears
   unfolding search lines
   search-start = refl
 
   pub search-step : (best : Candidate) (i : ℕ) → i < 32 → searchFrom best i ≡ searchFrom (column covers clears best i) (i + 1)
-  search-step best i h = rw (up_step i 32 h)
+  search-step best i h = rw (up-step i 32 h)
 
   pub search-end : (best : Candidate) (i : ℕ) → 32 ≤ i → searchFrom best i ≡ best
   search-end best i h = rw (up-end i 32 h)
@@ -116,17 +116,17 @@ column-same covers clears clears' i e best =
 
 -- ---- the search turns on what is covered in the grid alone
 
-up_same : {S : Type 0} (f g : S → ℕ → S) (n i : ℕ) → ((s : S) (j : ℕ) → i ≤ j → j < i + n → f s j ≡ g s j) → (s : S) → foldl f s (up_from i n) ≡ foldl g s (up_from i n)
-unfolding up_from
-up_same f g zero i e s = refl
-up_same {S} f g (suc n) i e s = ap (λ (t : S). foldl f t (up_from (i + 1) n)) (e s i (omega arith) (omega arith)) ∙ up_same f g n (i + 1) (λ t j h k. e t j (omega arith) (omega arith)) (g s i)
+up-same : {S : Type 0} (f g : S → ℕ → S) (n i : ℕ) → ((s : S) (j : ℕ) → i ≤ j → j < i + n → f s j ≡ g s j) → (s : S) → foldl f s (upFrom i n) ≡ foldl g s (upFrom i n)
+unfolding upFrom
+up-same f g zero i e s = refl
+up-same {S} f g (suc n) i e s = ap (λ (t : S). foldl f t (upFrom (i + 1) n)) (e s i (omega arith) (omega arith)) ∙ up-same f g n (i + 1) (λ t j h k. e t j (omega arith) (omega arith)) (g s i)
 
 pub search-same : (covers covers' : ℕ → ℕ → Bool) (clears : ℕ → ℕ → Float) → ((i j : ℕ) → 1 ≤ i → i ≤ 31 → 1 ≤ j → j ≤ 31 → covers i j ≡ covers' i j) → search covers clears ≡ search covers' clears
 unfolding search column lines
 search-same covers covers' clears e =
-    up_same (column covers clears) (column covers' clears) 31 1
+    up-same (column covers clears) (column covers' clears) 31 1
     (λ best i h k.
-    up_same (visit covers clears i) (visit covers' clears i) 31 1
+    up-same (visit covers clears i) (visit covers' clears i) 31 1
     (λ s j l m. visit-is covers clears i j s ∙ ap (λ (b : Bool). cond b (counted (better i j (clears i j) s)) s) (e i j h (omega arith) l (omega arith)) ∙ sym (visit-is covers' clears i j s))
     best)
     start

@@ -13,8 +13,8 @@ use Rattle.clearance.specs.SegmentLists.{segmentAt}
 use Rattle.search.specs.declared.copies.CopyEnds.{CopyEnds}
 
 -- the ends of the copy at u
-abbrev pub ends_at : Float → Float → Float → Float → CopyEnds
-ends_at period u a b = record { a = (shiftedTo period u (segment (point a a) (point b b))).a.u; b = (shiftedTo period u (segment (point a a) (point b b))).b.u }
+abbrev pub endsAt : Float → Float → Float → Float → CopyEnds
+endsAt period u a b = record { a = (shiftedTo period u (segment (point a a) (point b b))).a.u; b = (shiftedTo period u (segment (point a a) (point b b))).b.u }
 
 unfoldable pub sameEnds : CopyEnds → CopyEnds → Bool
 unfolding eq

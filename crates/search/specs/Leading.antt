@@ -7,7 +7,7 @@ use Rattle.search.specs.declared.leader.Leader.{Leader}
 
 -- the leader's clearance is the hypotenuse of its key
 pub record Led (l : Leader) : Type 0 where
-  pub is_key : Key l.key
+  pub isKey : Key l.key
   pub clearanceIs : l.best.clearance ≡ hypotOfKey l.key
 
 -- a key that is not above `bar` is `bar` itself, and the clearance is the hypotenuse of `bar`

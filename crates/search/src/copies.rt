@@ -4,9 +4,9 @@
 // copy or two.
 ghost use Rattle.std.specs.Prelude.{◌≡◌, map, ◌+◌, ◌/◌, ◌≤◌, length};
 ghost use Rattle.sheet.specs.Content.{point};
-ghost use Rattle.points.specs.Grid.{part as part_of};
+ghost use Rattle.points.specs.Grid.{part as partOf};
 ghost use Rattle.points.specs.Segments.{segment, segmentOf};
-ghost use Rattle.search.specs.Copies.{ends_at, regular, sameEnds, Serving, Serves, Ready};
+ghost use Rattle.search.specs.Copies.{endsAt, regular, sameEnds, Serving, Serves, Ready};
 ghost use Rattle.clearance.specs.Clearance.{shiftedTo};
 ghost use Rattle.clearance.specs.SegmentLists.{segmentsIn, segmentAt};
 
@@ -60,7 +60,7 @@ fn is_regular(period: f64, a_u: f64, b_u: f64) -> bool
 
 // Whether a copy with these ends is the one at column m.
 fn is_served(period: f64, ends: CopyEnds, m: u32, a_u: f64, b_u: f64) -> bool
-    ensures { result ≡ sameEnds ends (ends_at period (part_of m) a_u b_u) }
+    ensures { result ≡ sameEnds ends (endsAt period (partOf m) a_u b_u) }
 {
     are_same(ends, ends_at(period, part(m), a_u, b_u))
 }
@@ -68,7 +68,7 @@ fn is_served(period: f64, ends: CopyEnds, m: u32, a_u: f64, b_u: f64) -> bool
 // A column from i on up to which the copy at column i, which has these ends, serves: the last one, or one
 // that is found by halves.
 fn served(period: f64, i: u32, ends: CopyEnds, a_u: f64, b_u: f64) -> u32
-    requires { (1 ≤ i) × (i ≤ 31) × (ends ≡ ends_at period (part_of i) a_u b_u) }
+    requires { (1 ≤ i) × (i ≤ 31) × (ends ≡ endsAt period (partOf i) a_u b_u) }
     ensures { (i ≤ result) × Serves period i result a_u b_u }
 {
     if !is_regular(period, a_u, b_u) {
@@ -109,7 +109,7 @@ fn renew_one(period: f64, i: u32, s: Segment, until: u32, copy: &mut [f64]) -> u
 // The copies of all segments at column i, over those of the column before.
 pub(crate) fn renew(period: f64, i: u32, list: &[f64], until: &mut [u32], copies: &mut [f64])
     requires { (1 ≤ i) × (i ≤ 31) × (length list.now ≡ length copies.old) × (length list.now / 4 ≤ length until.old) × Ready period i list.now until.old copies.old }
-    ensures { (segmentsIn copies.new ≡ map (shiftedTo period (part_of i)) (segmentsIn list.now)) × Ready period (i + 1) list.now until.new copies.new }
+    ensures { (segmentsIn copies.new ≡ map (shiftedTo period (partOf i)) (segmentsIn list.now)) × Ready period (i + 1) list.now until.new copies.new }
 {
     let count = list.len() / NUMBERS;
     let mut k = 0;

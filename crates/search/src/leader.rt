@@ -2,7 +2,7 @@
 ghost use Rattle.std.specs.Prelude.{◌≡◌, false, map, ℕ, ◌+◌, ◌*◌, ◌/◌, ◌≤◌, ◌<◌, length, take};
 ghost use Rattle.std.specs.Float.{inf};
 ghost use Rattle.leaves.specs.Hypot.{hypotOfKey};
-ghost use Rattle.points.specs.Grid.{part as part_of, gridPoint};
+ghost use Rattle.points.specs.Grid.{part as partOf, gridPoint};
 ghost use Rattle.search.specs.Chosen.{coveredAt, chosenAmong};
 ghost use Rattle.search.specs.Copies.{Ready};
 ghost use Rattle.search.specs.Leading.{Led, Raised};
@@ -120,7 +120,7 @@ fn search_periodic(
     copies: &mut [f64],
 ) -> Candidate
     requires { (length list.now ≡ length copies.old) × (length list.now / 4 ≤ length until.old) × Ready period 1 list.now until.old copies.old }
-    ensures { result ≡ searchOf (coveredAt covered.now) (λ (i j : ℕ). hypotOfKey (leastKey (gridPoint i j) (inf false) (map (shiftedTo period (part_of i)) (segmentsIn list.now)))) }
+    ensures { result ≡ searchOf (coveredAt covered.now) (λ (i j : ℕ). hypotOfKey (leastKey (gridPoint i j) (inf false) (map (shiftedTo period (partOf i)) (segmentsIn list.now)))) }
 {
     let mut hints = [0usize; 32];
     let mut found = nobody();
@@ -136,7 +136,7 @@ fn search_periodic(
 // The same, over small lists of its own.
 fn search_small(period: f64, covered: &[bool], list: &[f64]) -> Candidate
     requires { length list.now ≤ 1088 }
-    ensures { result ≡ searchOf (coveredAt covered.now) (λ (i j : ℕ). hypotOfKey (leastKey (gridPoint i j) (inf false) (map (shiftedTo period (part_of i)) (segmentsIn list.now)))) }
+    ensures { result ≡ searchOf (coveredAt covered.now) (λ (i j : ℕ). hypotOfKey (leastKey (gridPoint i j) (inf false) (map (shiftedTo period (partOf i)) (segmentsIn list.now)))) }
 {
     let mut until = [0u32; SMALL_SEGMENTS];
     let mut copies = [0.0f64; SMALL_SEGMENT_NUMBERS];
@@ -147,7 +147,7 @@ fn search_small(period: f64, covered: &[bool], list: &[f64]) -> Candidate
 // The same, over lists of its own for the segments of any sheet.
 fn search_large(period: f64, covered: &[bool], list: &[f64]) -> Candidate
     requires { length list.now ≤ 8704 }
-    ensures { result ≡ searchOf (coveredAt covered.now) (λ (i j : ℕ). hypotOfKey (leastKey (gridPoint i j) (inf false) (map (shiftedTo period (part_of i)) (segmentsIn list.now)))) }
+    ensures { result ≡ searchOf (coveredAt covered.now) (λ (i j : ℕ). hypotOfKey (leastKey (gridPoint i j) (inf false) (map (shiftedTo period (partOf i)) (segmentsIn list.now)))) }
 {
     let mut until = [0u32; MOST_SEGMENTS];
     let mut copies = [0.0f64; MOST_SEGMENT_NUMBERS];
@@ -158,7 +158,7 @@ fn search_large(period: f64, covered: &[bool], list: &[f64]) -> Candidate
 // The same, by the number of segments.
 fn search_copies(period: f64, covered: &[bool], list: &[f64]) -> Candidate
     requires { length list.now ≤ 8704 }
-    ensures { result ≡ searchOf (coveredAt covered.now) (λ (i j : ℕ). hypotOfKey (leastKey (gridPoint i j) (inf false) (map (shiftedTo period (part_of i)) (segmentsIn list.now)))) }
+    ensures { result ≡ searchOf (coveredAt covered.now) (λ (i j : ℕ). hypotOfKey (leastKey (gridPoint i j) (inf false) (map (shiftedTo period (partOf i)) (segmentsIn list.now)))) }
 {
     if list.len() <= SMALL_SEGMENT_NUMBERS {
         search_small(period, covered, list)

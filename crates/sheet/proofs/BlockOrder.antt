@@ -12,15 +12,15 @@ use lib.Seq.{length-take-le, take-append-le, drop-append-le, drop_at}
 use borrow.Author.Tests.{le-ltb}
 use lib.Ieee.{Float}
 use Rattle.leaves.specs.Constants.{plusZero}
-use Rattle.leaves.proofs.Folds.{All, all_of, all-perm}
+use Rattle.leaves.proofs.Folds.{All, all-of, all-perm}
 use Rattle.sheet.specs.Content.{Coedge, Sheet, ringPoints}
-use Rattle.sheet.specs.Layout.{big, number_of, number, numbers, lengthField, version, kind, sense, ringCount, headSize, head, plane, cut, blocks, ring, sheetOf}
+use Rattle.sheet.specs.Layout.{big, numberOf, number, numbers, lengthField, version, kind, sense, ringCount, headSize, head, plane, cut, blocks, ring, sheetOf}
 use Rattle.answers.specs.Outcome.{first}
 use Rattle.sheet.specs.Checks.{lengthWrong, versionWrong, kindWrong, countWrong, fill, blocksWrong, layoutChecks}
 use Rattle.sheet.proofs.Blocks.{Block, whole-cut, cut-length, cut-blocks, cut-flatten, fill-flatten}
 use Rattle.sheet.proofs.Checked.{laid}
 use Rattle.answers.proofs.FirstCheck.{first-none}
-use Rattle.answers.proofs.Permutations.{perm-length, flatten-perm, map-perm, all_map}
+use Rattle.answers.proofs.Permutations.{perm-length, flatten-perm, map-perm, all-map}
 use Rattle.sheet.proofs.Reading.{ClearPoint, ClearDeviation, ring-clear, ring-deviations}
 
 -- the sheet with these rings in place of its own
@@ -46,8 +46,8 @@ plane-is s = refl
 -- ---- what stands in the front part of a list
 
 module _ (h x y : List ℕ) where
-  front_at : (n : ℕ) → n < length h → get_or (h ++ x) n 0 ≡ get_or (h ++ y) n 0
-  front_at n l = get_or-append h x 0 n l ∙ sym (get_or-append h y 0 n l)
+  front-at : (n : ℕ) → n < length h → get_or (h ++ x) n 0 ≡ get_or (h ++ y) n 0
+  front-at n l = get_or-append h x 0 n l ∙ sym (get_or-append h y 0 n l)
 
   front-take : (n : ℕ) → n ≤ length h → take n (h ++ x) ≡ take n (h ++ y)
   front-take n l = take-append-le n h x l ∙ sym (take-append-le n h y l)
@@ -55,7 +55,7 @@ module _ (h x y : List ℕ) where
   front-number : 8 ≤ length h → number (h ++ x) ≡ number (h ++ y)
   unfolding number
   front-number l =
-      ap₂ (λ (b : Bool) (s : List ℕ). cond b plusZero (number_of (big s))) (le-ltb (length (h ++ x)) 8 (simp length-append (omega arith)) ∙ sym (le-ltb (length (h ++ y)) 8 (simp length-append (omega arith)))) (front-take 8 l)
+      ap₂ (λ (b : Bool) (s : List ℕ). cond b plusZero (numberOf (big s))) (le-ltb (length (h ++ x)) 8 (simp length-append (omega arith)) ∙ sym (le-ltb (length (h ++ y)) 8 (simp length-append (omega arith)))) (front-take 8 l)
 
 front-numbers : (n : ℕ) (h x y : List ℕ) → 8 * n ≤ length h → numbers n (h ++ x) ≡ numbers n (h ++ y)
 unfolding numbers
@@ -94,33 +94,33 @@ module _ (s : List ℕ) (reads : first (layoutChecks s) ≡ 0) where
     abbrev t : List ℕ
     t = head s ++ flatten bs
 
-    same_length : length t ≡ length s
-    same_length =
+    same-length : length t ≡ length s
+    same-length =
         length-append (head s) (flatten bs) ∙ ap (λ (n : ℕ). length (head s) + n) (sym (perm-length (flatten-perm d))) ∙ sym (length-append (head s) (flatten (blocks s))) ∙ sym (ap length whole)
 
-    same_at : (n : ℕ) → n < 8 → get_or t n 0 ≡ get_or s n 0
-    same_at n l = let m = head-long in front_at (head s) (flatten bs) (flatten (blocks s)) n (omega arith) ∙ sym (ap (λ (l : List ℕ). get_or l n 0) whole)
+    same-at : (n : ℕ) → n < 8 → get_or t n 0 ≡ get_or s n 0
+    same-at n l = let m = head-long in front-at (head s) (flatten bs) (flatten (blocks s)) n (omega arith) ∙ sym (ap (λ (l : List ℕ). get_or l n 0) whole)
 
     same-field : lengthField t ≡ lengthField s
     same-field = let m = head-long in ap big (front-take (head s) (flatten bs) (flatten (blocks s)) 4 (omega arith) ∙ sym (ap (take 4) whole))
 
-    same_version : version t ≡ version s
-    same_version = same_at 4 (omega arith)
+    same-version : version t ≡ version s
+    same-version = same-at 4 (omega arith)
 
-    same_kind : kind t ≡ kind s
-    same_kind = same_at 5 (omega arith)
+    same-kind : kind t ≡ kind s
+    same-kind = same-at 5 (omega arith)
 
     same-sense : sense t ≡ sense s
-    same-sense = same_at 6 (omega arith)
+    same-sense = same-at 6 (omega arith)
 
-    same_count : ringCount t ≡ ringCount s
-    same_count = same_at 7 (omega arith)
+    same-count : ringCount t ≡ ringCount s
+    same-count = same-at 7 (omega arith)
 
     count-is : ringCount t ≡ length bs
-    count-is = same_count ∙ sym blocks-length ∙ perm-length d
+    count-is = same-count ∙ sym blocks-length ∙ perm-length d
 
     behind-head : drop (headSize (kind t)) t ≡ flatten bs
-    behind-head = ap (λ (k : ℕ). drop (headSize k) t) same_kind ∙ drop_at (head s) (flatten bs) (headSize (kind s)) head-length
+    behind-head = ap (λ (k : ℕ). drop (headSize k) t) same-kind ∙ drop_at (head s) (flatten bs) (headSize (kind s)) head-length
 
     -- its blocks are those
     pub its-blocks : blocks t ≡ bs
@@ -130,8 +130,8 @@ module _ (s : List ℕ) (reads : first (layoutChecks s) ≡ 0) where
     its-fill : fill (ringCount t) (drop (headSize (kind t)) t) ≡ true
     its-fill = ap₂ fill count-is behind-head ∙ fill-flatten bs (all-perm Block d blocks-are)
 
-    same_numbers : headSize (kind s) ≡ 80 → numbers 9 (drop 8 t) ≡ numbers 9 (drop 8 s)
-    same_numbers e =
+    same-numbers : headSize (kind s) ≡ 80 → numbers 9 (drop 8 t) ≡ numbers 9 (drop 8 s)
+    same-numbers e =
         let m = head-long in
         let l : 8 * 9 ≤ length (drop 8 (head s)) = simp length-drop (omega (arith, head-length)) in
         ap (numbers 9) (drop-append-le 8 (head s) (flatten bs) m)
@@ -140,33 +140,33 @@ module _ (s : List ℕ) (reads : first (layoutChecks s) ≡ 0) where
         ∙ sym (ap (λ (l : List ℕ). numbers 9 (drop 8 l)) whole)
 
     same-plane : plane t ≡ plane s
-    same-plane = plane-is t ∙ ap (λ (k : ℕ). cond (eqb k 0) (numbers 9 (drop 8 t)) []) same_kind ∙ by (eqb (kind s) 0) refl ∙ sym (plane-is s)
+    same-plane = plane-is t ∙ ap (λ (k : ℕ). cond (eqb k 0) (numbers 9 (drop 8 t)) []) same-kind ∙ by (eqb (kind s) 0) refl ∙ sym (plane-is s)
       where
         by : (b : Bool) → eqb (kind s) 0 ≡ b → cond b (numbers 9 (drop 8 t)) [] ≡ cond b (numbers 9 (drop 8 s)) []
-        by true e = same_numbers (plane-head (kind s) e)
+        by true e = same-numbers (plane-head (kind s) e)
         by false e = refl
 
     same-length-wrong : lengthWrong t ≡ lengthWrong s
     unfolding lengthWrong
-    same-length-wrong = ap₂ (λ (n f : ℕ). ltb n 8 || not (eqb f (n - 4))) same_length same-field
+    same-length-wrong = ap₂ (λ (n f : ℕ). ltb n 8 || not (eqb f (n - 4))) same-length same-field
 
     same-version-wrong : versionWrong t ≡ versionWrong s
     unfolding versionWrong
-    same-version-wrong = ap (λ (n : ℕ). not (eqb n 1)) same_version
+    same-version-wrong = ap (λ (n : ℕ). not (eqb n 1)) same-version
 
     same-kind-wrong : kindWrong t ≡ kindWrong s
     unfolding kindWrong
-    same-kind-wrong = ap₂ (λ (k n : ℕ). ltb 6 k || ltb 2 n) same_kind same-sense
+    same-kind-wrong = ap₂ (λ (k n : ℕ). ltb 6 k || ltb 2 n) same-kind same-sense
 
     same-count-wrong : countWrong t ≡ countWrong s
     unfolding countWrong
-    same-count-wrong = ap (λ (n : ℕ). eqb n 0 || ltb 16 n) same_count
+    same-count-wrong = ap (λ (n : ℕ). eqb n 0 || ltb 16 n) same-count
 
     its-fit : blocksWrong t ≡ false
     unfolding blocksWrong
     its-fit =
         let f = (laid s reads).headFits in
-        ap₂ (λ (a b : Bool). a || not b) (ap₂ (λ (n k : ℕ). ltb n (headSize k)) same_length same_kind ∙ le-ltb (length s) (headSize (kind s)) f) its-fill
+        ap₂ (λ (a b : Bool). a || not b) (ap₂ (λ (n k : ℕ). ltb n (headSize k)) same-length same-kind ∙ le-ltb (length s) (headSize (kind s)) f) its-fill
 
     -- its layout reads
     pub its-layout : first (layoutChecks t) ≡ 0
@@ -178,7 +178,7 @@ module _ (s : List ℕ) (reads : first (layoutChecks s) ≡ 0) where
     -- it says the same, but for the order of the rings
     pub its-sheet : sheetOf t ≡ withRings (sheetOf s) (map ring bs)
     unfolding sheetOf
-    its-sheet = λ i. record { kind = same_kind i; sense = same-sense i; plane = same-plane i; rings = map ring (its-blocks i) }
+    its-sheet = λ i. record { kind = same-kind i; sense = same-sense i; plane = same-plane i; rings = map ring (its-blocks i) }
 
     pub its-rings : Permᴰ (sheetOf s).rings (map ring bs)
     unfolding sheetOf
@@ -192,8 +192,8 @@ rings-are s = refl
 -- no coordinate that is read is -0, and no deviation
 pub rings-clear : (s : List ℕ) → All (λ (r : List Coedge). All ClearPoint (ringPoints r)) (sheetOf s).rings
 unfolding sheetOf
-rings-clear s = all_map (λ (r : List Coedge). All ClearPoint (ringPoints r)) ring (blocks s) (all_of (λ (b : List ℕ). All ClearPoint (ringPoints (ring b))) ring-clear (blocks s))
+rings-clear s = all-map (λ (r : List Coedge). All ClearPoint (ringPoints r)) ring (blocks s) (all-of (λ (b : List ℕ). All ClearPoint (ringPoints (ring b))) ring-clear (blocks s))
 
 pub deviations-clear : (s : List ℕ) → All (All ClearDeviation) (sheetOf s).rings
 unfolding sheetOf
-deviations-clear s = all_map (All ClearDeviation) ring (blocks s) (all_of (λ (b : List ℕ). All ClearDeviation (ring b)) ring-deviations (blocks s))
+deviations-clear s = all-map (All ClearDeviation) ring (blocks s) (all-of (λ (b : List ℕ). All ClearDeviation (ring b)) ring-deviations (blocks s))

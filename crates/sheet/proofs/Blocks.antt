@@ -29,11 +29,11 @@ pub block-size-pos : (s : List ℕ) → 0 < blockSize s
 block-size-pos s = omega (arith, block-size-is s)
 
 -- the first byte is all that the size turns on
-same_size : (a b : List ℕ) → get_or a 0 0 ≡ get_or b 0 0 → blockSize a ≡ blockSize b
-same_size a b e = omega (arith, block-size-is a, block-size-is b)
+same-size : (a b : List ℕ) → get_or a 0 0 ≡ get_or b 0 0 → blockSize a ≡ blockSize b
+same-size a b e = omega (arith, block-size-is a, block-size-is b)
 
-pub first_byte : (s : List ℕ) → get_or (take (blockSize s) s) 0 0 ≡ get_or s 0 0
-first_byte s = get_or-take (blockSize s) s 0 0 (block-size-pos s)
+pub first-byte : (s : List ℕ) → get_or (take (blockSize s) s) 0 0 ≡ get_or s 0 0
+first-byte s = get_or-take (blockSize s) s 0 0 (block-size-pos s)
 
 -- ---- blocks
 
@@ -45,13 +45,13 @@ both : (a b : Bool) → (a && b) ≡ true → (a ≡ true) × (b ≡ true)
 both true b e = (refl, e)
 both false b e = absurd (true≢false (sym e))
 
-no_bytes : (s : List ℕ) → length s ≡ 0 → s ≡ []
-no_bytes [] e = refl
-no_bytes (x ∷ xs) e = absurd (omega arith)
+no-bytes : (s : List ℕ) → length s ≡ 0 → s ≡ []
+no-bytes [] e = refl
+no-bytes (x ∷ xs) e = absurd (omega arith)
 
-fill_none : (s : List ℕ) → fill zero s ≡ true → s ≡ []
+fill-none : (s : List ℕ) → fill zero s ≡ true → s ≡ []
 unfolding fill
-fill_none s e = no_bytes s (eqb-true (length s) 0 e)
+fill-none s e = no-bytes s (eqb-true (length s) 0 e)
 
 -- the first of the blocks that fill s, and what fills the rest
 pub fill-first : (n : ℕ) (s : List ℕ) → fill (suc n) s ≡ true → (blockSize s ≤ length s) × (fill n (drop (blockSize s) s) ≡ true)
@@ -67,12 +67,12 @@ cut-length (suc n) s = ap suc (cut-length n (drop (blockSize s) s))
 
 pub whole-cut : (n : ℕ) (s : List ℕ) → fill n s ≡ true → flatten (cut n s) ≡ s
 unfolding cut flatten
-whole-cut zero s e = sym (fill_none s e)
+whole-cut zero s e = sym (fill-none s e)
 whole-cut (suc n) s e =
     ap (λ (l : List ℕ). take (blockSize s) s ++ l) (whole-cut n (drop (blockSize s) s) (fill-first n s e).1) ∙ take-append-drop (blockSize s) s
 
 taken-block : (s : List ℕ) → blockSize s ≤ length s → Block (take (blockSize s) s)
-taken-block s h = length-take-le (blockSize s) s h ∙ sym (same_size (take (blockSize s) s) s (first_byte s))
+taken-block s h = length-take-le (blockSize s) s h ∙ sym (same-size (take (blockSize s) s) s (first-byte s))
 
 pub cut-blocks : (n : ℕ) (s : List ℕ) → fill n s ≡ true → All Block (cut n s)
 unfolding cut
@@ -83,7 +83,7 @@ cut-blocks (suc n) s e =
 
 -- the size of a whole block with bytes behind it is its length
 front-size : (b rest : List ℕ) → Block b → blockSize (b ++ rest) ≡ length b
-front-size b rest h = same_size (b ++ rest) b (get_or-append b rest 0 0 (omega (arith, block-size-pos b))) ∙ sym h
+front-size b rest h = same-size (b ++ rest) b (get_or-append b rest 0 0 (omega (arith, block-size-pos b))) ∙ sym h
 
 pub cut-flatten : (bs : List (List ℕ)) → All Block bs → cut (length bs) (flatten bs) ≡ bs
 unfolding cut flatten

@@ -10,14 +10,14 @@ use lib.Ieee.Positive.{num}
 use lib.ListN.{length, drop}
 use borrow.Author.Tests.{ltb-false, eqb-true, eqb-false, not-false}
 use Rattle.leaves.specs.Constants.{plusZero, deviationLimit}
-use Rattle.leaves.proofs.Folds.{All, all_append}
+use Rattle.leaves.proofs.Folds.{All, all-append}
 use Rattle.leaves.proofs.Magnitudes.{Most}
 use Rattle.sheet.specs.Content.{Point, Coedge, Sheet, ringPoints}
 use Rattle.answers.specs.Limits.{beyond}
-use Rattle.answers.specs.Lists.{any_of}
+use Rattle.answers.specs.Lists.{anyOf}
 use Rattle.sheet.specs.Layout.{lengthField, version, kind, sense, ringCount, headSize, plane, blocks, cut, ring, sheetOf}
 use Rattle.answers.specs.Outcome.{Check, first}
-use Rattle.answers.proofs.AnyOf.{neither, any_false}
+use Rattle.answers.proofs.AnyOf.{neither, any-false}
 use Rattle.answers.proofs.Finite.{not-beyond-most}
 use Rattle.answers.proofs.FirstCheck.{Numbered, none-fails, append-none}
 use Rattle.answers.proofs.Permutations.{all-weaken}
@@ -41,7 +41,7 @@ pub content-numbered : (s : Sheet) → Numbered (contentChecks s)
 content-numbered s = content-all (λ (n : ℕ). 0 < n) s (omega arith)
 
 pub sheet-numbered : (s : List ℕ) → Numbered (layoutChecks s ++ contentChecks (sheetOf s))
-sheet-numbered s = all_append (λ (c : Check). 0 < c.number) (layoutChecks s) (contentChecks (sheetOf s)) (layout-numbered s) (content-numbered (sheetOf s))
+sheet-numbered s = all-append (λ (c : Check). 0 < c.number) (layoutChecks s) (contentChecks (sheetOf s)) (layout-numbered s) (content-numbered (sheetOf s))
 
 -- the rings that stand in the blocks: `(sheetOf s).rings`, computed
 abbrev pub ringsOf : List ℕ → List (List Coedge)
@@ -51,7 +51,7 @@ pub rings-are : (s : List ℕ) → (sheetOf s).rings ≡ ringsOf s
 unfolding sheetOf blocks
 rings-are s = refl
 
-pub table : (s : List ℕ) → first (layoutChecks s ++ contentChecks (sheetOf s)) ≡ cond (lengthWrong s) 1 (cond (versionWrong s) 2 (cond (kindWrong s) 3 (cond (countWrong s) 4 (cond (blocksWrong s) 5 (cond (coedgesWrong (ringsOf s)) 6 (cond (planeWrong (plane s) || any_of ringWrong (ringsOf s)) 7 0))))))
+pub table : (s : List ℕ) → first (layoutChecks s ++ contentChecks (sheetOf s)) ≡ cond (lengthWrong s) 1 (cond (versionWrong s) 2 (cond (kindWrong s) 3 (cond (countWrong s) 4 (cond (blocksWrong s) 5 (cond (coedgesWrong (ringsOf s)) 6 (cond (planeWrong (plane s) || anyOf ringWrong (ringsOf s)) 7 0))))))
 unfolding first layoutChecks contentChecks sheetOf blocks numbersWrong
 table s = refl
 
@@ -157,14 +157,14 @@ full ((c ∷ cs) ∷ rs) h = (omega arith, full rs h.1)
 pub coedges-right : (rings : List (List Coedge)) → coedgesWrong rings ≡ false → All (λ (r : List Coedge). 1 ≤ length r) rings × (coedgeTotal rings ≤ 128)
 unfolding coedgesWrong
 coedges-right rings e =
-    let p = neither (any_of empty rings) (ltb 128 (coedgeTotal rings)) e in
-    (full rings (any_false empty rings p.0), ltb-false 128 (coedgeTotal rings) p.1)
+    let p = neither (anyOf empty rings) (ltb 128 (coedgeTotal rings)) e in
+    (full rings (any-false empty rings p.0), ltb-false 128 (coedgeTotal rings) p.1)
 
 pub numbers-right : (s : Sheet) → numbersWrong s ≡ false → (planeWrong s.plane ≡ false) × All (λ (r : List Coedge). ringWrong r ≡ false) s.rings
 unfolding numbersWrong
 numbers-right s e =
-    let p = neither (planeWrong s.plane) (any_of ringWrong s.rings) e in
-    (p.0, any_false ringWrong s.rings p.1)
+    let p = neither (planeWrong s.plane) (anyOf ringWrong s.rings) e in
+    (p.0, any-false ringWrong s.rings p.1)
 
 pub checked : (s : List ℕ) → first (layoutChecks s ++ contentChecks (sheetOf s)) ≡ 0 → Checked s
 unfolding contentChecks
@@ -208,13 +208,13 @@ point-most p e =
 coedge-most : (c : Coedge) → coedgeWrong c ≡ false → All (MostPoint coordinateMost) c.points
 unfolding coedgeWrong
 coedge-most c e =
-    let p = neither (not (le plusZero c.deviation && lt c.deviation deviationLimit)) (any_of pointWrong c.points) e in
-    all-weaken (λ (p : Point). pointWrong p ≡ false) (MostPoint coordinateMost) point-most c.points (any_false pointWrong c.points p.1)
+    let p = neither (not (le plusZero c.deviation && lt c.deviation deviationLimit)) (anyOf pointWrong c.points) e in
+    all-weaken (λ (p : Point). pointWrong p ≡ false) (MostPoint coordinateMost) point-most c.points (any-false pointWrong c.points p.1)
 
 pub ring-most : (r : List Coedge) → ringWrong r ≡ false → All (MostPoint coordinateMost) (ringPoints r)
 unfolding ringWrong ringPoints flat_map
-ring-most r e = go r (any_false coedgeWrong r e)
+ring-most r e = go r (any-false coedgeWrong r e)
   where
     go : (cs : List Coedge) → All (λ (c : Coedge). coedgeWrong c ≡ false) cs → All (MostPoint coordinateMost) (ringPoints cs)
     go [] h = tt
-    go (c ∷ cs) h = all_append (MostPoint coordinateMost) c.points (ringPoints cs) (coedge-most c h.0) (go cs h.1)
+    go (c ∷ cs) h = all-append (MostPoint coordinateMost) c.points (ringPoints cs) (coedge-most c h.0) (go cs h.1)

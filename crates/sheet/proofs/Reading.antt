@@ -15,22 +15,22 @@ use lib.Ieee.Fits.{down_pos}
 use borrow.Author.Tests.{eqb-false}
 use Rattle.leaves.specs.Constants.{plusZero}
 use Rattle.leaves.proofs.Choices.{Clear}
-use Rattle.leaves.proofs.Folds.{All, all_append}
+use Rattle.leaves.proofs.Folds.{All, all-append}
 use Rattle.leaves.proofs.Order.{minusZero}
 use Rattle.sheet.specs.Content.{Point, Coedge, ringPoints}
-use Rattle.sheet.specs.Layout.{big, number_of, number, points, coedge, coedges, ring}
+use Rattle.sheet.specs.Layout.{big, numberOf, number, points, coedge, coedges, ring}
 
 -- ---- a pattern that is not 0 without its sign stands for no zero
 
-above_zero : (x : Float) (a c : ℕ) → 0 < a → Equals x a c → T (not (minusZero x))
-above_zero nan a c h v = tt
-above_zero (inf t) a c h v = tt
-above_zero (fin false m e) a c h v = tt
-above_zero (fin true (suc m) e) a c h v = tt
-above_zero (fin true zero e) a c h v = absurd (lt_irrefl 0 (subst (λ (x : ℕ). 0 < x) (sym v ∙ ap (λ (x : ℕ). x * c) (zero-mul (up e)) ∙ zero-mul c) (mul-pos h (down_pos e))))
+above-zero : (x : Float) (a c : ℕ) → 0 < a → Equals x a c → T (not (minusZero x))
+above-zero nan a c h v = tt
+above-zero (inf t) a c h v = tt
+above-zero (fin false m e) a c h v = tt
+above-zero (fin true (suc m) e) a c h v = tt
+above-zero (fin true zero e) a c h v = absurd (lt_irrefl 0 (subst (λ (x : ℕ). 0 < x) (sym v ∙ ap (λ (x : ℕ). x * c) (zero-mul (up e)) ∙ zero-mul c) (mul-pos h (down_pos e))))
 
 odd-clear : (s : Bool) (q k : ℕ) → 0 < q → T (not (minusZero (odd (prec binary64) s q k (low binary64))))
-odd-clear s q k h = above_zero (odd (prec binary64) s q k (low binary64)) (q * 2 ^ k) (2 ^ low binary64) (mul-pos h (pow_pos k)) (odd_val (prec binary64) s q k (low binary64))
+odd-clear s q k h = above-zero (odd (prec binary64) s q k (low binary64)) (q * 2 ^ k) (2 ^ low binary64) (mul-pos h (pow_pos k)) (odd_val (prec binary64) s q k (low binary64))
 
 fields-clear : (s : Bool) (x t : ℕ) → (x ≡ 0 → 0 < t) → T (not (minusZero (of_fields binary64 s x t)))
 unfolding of_fields
@@ -51,24 +51,24 @@ pattern-clear b h = fields-clear (leb 0x8000000000000000 b) (b % 0x8000000000000
 
 -- ---- the numbers
 
-zero_clear : Clear binary64 plusZero
+zero-clear : Clear binary64 plusZero
 unfolding of_bits
-zero_clear = record { held = of_bits-fits binary64 0; unmarked = tt }
+zero-clear = record { held = of_bits-fits binary64 0; unmarked = tt }
 
-pub bits-clear : (bits : ℕ) → Clear binary64 (number_of bits)
-unfolding number_of
+pub bits-clear : (bits : ℕ) → Clear binary64 (numberOf bits)
+unfolding numberOf
 bits-clear bits = go (eqb (bits % 2 ^ 63) 0) refl
   where
     go : (b : Bool) → eqb (bits % 2 ^ 63) 0 ≡ b → Clear binary64 (cond b plusZero (of_bits binary64 bits))
-    go true e = zero_clear
+    go true e = zero-clear
     go false e = record { held = of_bits-fits binary64 bits; unmarked = pattern-clear bits (eqb-false (bits % 2 ^ 63) 0 e) }
 
 pub number-clear : (s : List ℕ) → Clear binary64 (number s)
 unfolding number
 number-clear s = go (ltb (length s) 8)
   where
-    go : (b : Bool) → Clear binary64 (cond b plusZero (number_of (big (take 8 s))))
-    go true = zero_clear
+    go : (b : Bool) → Clear binary64 (cond b plusZero (numberOf (big (take 8 s))))
+    go true = zero-clear
     go false = bits-clear (big (take 8 s))
 
 -- ---- the points
@@ -84,7 +84,7 @@ points-clear (suc n) s = ((number-clear s, number-clear (drop 8 s)), points-clea
 coedges-clear : (n : ℕ) (s : List ℕ) → All ClearPoint (ringPoints (coedges n s))
 unfolding coedges coedge ringPoints flat_map
 coedges-clear zero s = tt
-coedges-clear (suc n) s = all_append ClearPoint (points 17 (drop 8 s)) (ringPoints (coedges n (drop 280 s))) (points-clear 17 (drop 8 s)) (coedges-clear n (drop 280 s))
+coedges-clear (suc n) s = all-append ClearPoint (points 17 (drop 8 s)) (ringPoints (coedges n (drop 280 s))) (points-clear 17 (drop 8 s)) (coedges-clear n (drop 280 s))
 
 pub ring-clear : (b : List ℕ) → All ClearPoint (ringPoints (ring b))
 unfolding ring

@@ -6,7 +6,7 @@ use Rattle.std.specs.Float.{binary64}
 use Rattle.std.specs.Float.Ieee.{of_bits, lt, le}
 use Rattle.leaves.specs.Constants.{plusZero, deviationLimit}
 use Rattle.sheet.specs.Content.{Point, Coedge, Sheet}
-use Rattle.answers.specs.Lists.{any_of}
+use Rattle.answers.specs.Lists.{anyOf}
 use Rattle.answers.specs.Outcome.{Check, check}
 use Rattle.answers.specs.Limits.{beyond}
 use Rattle.sheet.specs.Layout.{lengthField, version, kind, sense, ringCount, headSize, blockSize}
@@ -56,8 +56,8 @@ unfoldable pub coedgeTotal : List (List Coedge) → ℕ
 coedgeTotal rings = foldl (λ (n : ℕ) (r : List Coedge). n + length r) 0 rings
 
 unfoldable pub coedgesWrong : List (List Coedge) → Bool
-unfolding any_of empty coedgeTotal
-coedgesWrong rings = any_of empty rings || ltb mostCoedges (coedgeTotal rings)
+unfolding anyOf empty coedgeTotal
+coedgesWrong rings = anyOf empty rings || ltb mostCoedges (coedgeTotal rings)
 
 -- ---- 7: "not finite; or magnitude above: 2^20 chart coordinate or origin, 2 axis component; or deviation below 0 or
 -- not below 0.002"
@@ -75,21 +75,21 @@ unfolding beyond
 pointWrong p = beyond coordinateLimit p.u || beyond coordinateLimit p.v
 
 unfoldable pub coedgeWrong : Coedge → Bool
-unfolding le lt any_of pointWrong
-coedgeWrong c = not (le plusZero c.deviation && lt c.deviation deviationLimit) || any_of pointWrong c.points
+unfolding le lt anyOf pointWrong
+coedgeWrong c = not (le plusZero c.deviation && lt c.deviation deviationLimit) || anyOf pointWrong c.points
 
 unfoldable pub ringWrong : List Coedge → Bool
-unfolding any_of coedgeWrong
-ringWrong ring = any_of coedgeWrong ring
+unfolding anyOf coedgeWrong
+ringWrong ring = anyOf coedgeWrong ring
 
 -- origin, u axis, normal
 unfoldable pub planeWrong : List Float → Bool
-unfolding any_of beyond
-planeWrong xs = any_of (beyond coordinateLimit) (take 3 xs) || any_of (beyond axisLimit) (drop 3 xs)
+unfolding anyOf beyond
+planeWrong xs = anyOf (beyond coordinateLimit) (take 3 xs) || anyOf (beyond axisLimit) (drop 3 xs)
 
 unfoldable pub numbersWrong : Sheet → Bool
-unfolding planeWrong any_of ringWrong
-numbersWrong s = planeWrong s.plane || any_of ringWrong s.rings
+unfolding planeWrong anyOf ringWrong
+numbersWrong s = planeWrong s.plane || anyOf ringWrong s.rings
 
 -- ---- the table
 

@@ -14,14 +14,14 @@ unfoldable pub big : List ℕ → ℕ
 big s = foldl (λ (n b : ℕ). n * 256 + b) 0 s
 
 -- an f64 by its bits; "A −0 is read as +0"
-unfoldable pub number_of : ℕ → Float
+unfoldable pub numberOf : ℕ → Float
 unfolding of_bits
-number_of bits = cond (eqb (bits % 2 ^ 63) 0) plusZero (of_bits binary64 bits)
+numberOf bits = cond (eqb (bits % 2 ^ 63) 0) plusZero (of_bits binary64 bits)
 
 -- the f64 that s begins with; +0 where fewer than eight bytes are left
 unfoldable pub number : List ℕ → Float
-unfolding number_of big
-number s = cond (ltb (length s) 8) plusZero (number_of (big (take 8 s)))
+unfolding numberOf big
+number s = cond (ltb (length s) 8) plusZero (numberOf (big (take 8 s)))
 
 -- the first n of them
 unfoldable pub numbers : ℕ → List ℕ → List Float

@@ -1,6 +1,6 @@
 // The fields of a sheet of version 1.
 ghost use Rattle.std.specs.Prelude.{◌≡◌, ◌+◌, ◌<◌, ◌≤◌, length, get_or, take, drop};
-ghost use Rattle.sheet.specs.Layout.{big, number as number_at, number_of, headSize, blockSize};
+ghost use Rattle.sheet.specs.Layout.{big, number as number_at, numberOf, headSize, blockSize};
 
 // Ring blocks of a sheet, and coedges of all of them together, at most.
 pub const MOST_RINGS: usize = 16;
@@ -51,7 +51,7 @@ pub(crate) fn word(s: &[u8], at: usize) -> u64
 
 // The f64 of these bits; -0 as +0. from_bits takes no NaN's pattern, so a NaN is made anew.
 fn float(bits: u64) -> f64
-    ensures { result ≡ number_of bits }
+    ensures { result ≡ numberOf bits }
 {
     if bits % 0x8000_0000_0000_0000 == 0 {
         0.0

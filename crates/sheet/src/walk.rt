@@ -1,7 +1,7 @@
 // The checks that walk over the ring blocks and their numbers. A walk goes from block to block by the
 // coedge counts alone, so it reaches every block whatever stands in it.
 ghost use Rattle.std.specs.Prelude.{◌≡◌, true, map, ◌+◌, ◌*◌, ◌≤◌, length, drop};
-ghost use Rattle.answers.specs.Lists.{any_of};
+ghost use Rattle.answers.specs.Lists.{anyOf};
 ghost use Rattle.sheet.specs.Layout.{ring, cut, coedge, numbers};
 ghost use Rattle.sheet.specs.Checks.{fill, coedgeWrong, ringWrong, coedgesWrong};
 ghost use Rattle.answers.specs.Limits.{beyond};
@@ -17,7 +17,7 @@ pub(crate) const COORDINATE_LIMIT: f64 = 1048576.0;
 // Whether any of `count` numbers from `from` on is beyond the limit.
 pub(crate) fn any_beyond(limit: f64, s: &[u8], from: usize, count: usize) -> bool
     requires { (from ≤ 100000) × (count ≤ 34) }
-    ensures { result ≡ any_of (beyond limit) (numbers count (drop from s.now)) }
+    ensures { result ≡ anyOf (beyond limit) (numbers count (drop from s.now)) }
 {
     let mut k = 0;
     while k < count {
@@ -99,7 +99,7 @@ pub(crate) fn coedges_wrong(s: &[u8], from: usize, count: u8) -> bool
 // Check 7 of the rings whose blocks stand from `from` on.
 pub(crate) fn rings_wrong(s: &[u8], from: usize, count: u8) -> bool
     requires { (from ≤ length s.now) × (fill count (drop from s.now) ≡ true) }
-    ensures { result ≡ any_of ringWrong (map ring (cut count (drop from s.now))) }
+    ensures { result ≡ anyOf ringWrong (map ring (cut count (drop from s.now))) }
 {
     let mut at = from;
     let mut k: u8 = 0;

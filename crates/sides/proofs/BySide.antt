@@ -7,7 +7,7 @@ use Prim.Native.Nat.{ℕ}
 use lib.Ieee.{Float}
 use lib.ListN.{length, get_or}
 use Rattle.answers.specs.Limits.{beyond, argumentLimit}
-use Rattle.answers.specs.Lists.{any_of}
+use Rattle.answers.specs.Lists.{anyOf}
 use Rattle.answers.proofs.AnyOf.{any-three}
 use Rattle.sides.specs.Sides.{sidesBeyond}
 
@@ -40,19 +40,19 @@ four e c r v =
 -- ---- the sides
 
 abbrev Beyond : List Float → Bool
-Beyond xs = any_of (beyond argumentLimit) xs
+Beyond xs = anyOf (beyond argumentLimit) xs
 
 -- a number of a side is beyond the limit
 abbrev sideBeyond : List (List Float) → List Float → List Float → List (List Float) → Bool
-sideBeyond ends circle range evaluated = any_of Beyond ends || Beyond circle || Beyond range || any_of Beyond evaluated
+sideBeyond ends circle range evaluated = anyOf Beyond ends || Beyond circle || Beyond range || anyOf Beyond evaluated
 
 module _ (ends : List (List (List Float))) (circles ranges : List (List Float)) (evaluated : List (List (List Float))) where
   -- of the kth side
   abbrev pub sideAt : ℕ → Bool
   sideAt k = sideBeyond (get_or ends k []) (get_or circles k []) (get_or ranges k []) (get_or evaluated k [])
 
-  pub by_side : length ends ≡ 3 → length circles ≡ 3 → length ranges ≡ 3 → length evaluated ≡ 3 → sidesBeyond ends circles ranges evaluated ≡ (sideAt 0 || sideAt 1 || sideAt 2)
+  pub by-side : length ends ≡ 3 → length circles ≡ 3 → length ranges ≡ 3 → length evaluated ≡ 3 → sidesBeyond ends circles ranges evaluated ≡ (sideAt 0 || sideAt 1 || sideAt 2)
   unfolding sidesBeyond
-  by_side e c r v =
-      rw (any-three (any_of Beyond) [] ends e, any-three Beyond [] circles c, any-three Beyond [] ranges r, any-three (any_of Beyond) [] evaluated v)
-      (four (λ k. any_of Beyond (get_or ends k [])) (λ k. Beyond (get_or circles k [])) (λ k. Beyond (get_or ranges k [])) (λ k. any_of Beyond (get_or evaluated k [])))
+  by-side e c r v =
+      rw (any-three (anyOf Beyond) [] ends e, any-three Beyond [] circles c, any-three Beyond [] ranges r, any-three (anyOf Beyond) [] evaluated v)
+      (four (λ k. anyOf Beyond (get_or ends k [])) (λ k. Beyond (get_or circles k [])) (λ k. Beyond (get_or ranges k [])) (λ k. anyOf Beyond (get_or evaluated k [])))

@@ -6,17 +6,17 @@ use Rattle.std.specs.Float.Ieee.{sub, mul, lt}
 use Rattle.leaves.specs.Bounds.{exceedsOf}
 use Rattle.leaves.specs.Constants.{plusZero, pi, micro, endLimit}
 use Rattle.space.specs.Places.{placeAt}
-use Rattle.space.specs.Vectors.{minusOf, distance_of, length_of, unit_of, unitFails}
+use Rattle.space.specs.Vectors.{minusOf, distanceOf, lengthOf, unitOf, unitFails}
 use Rattle.space.specs.declared.vectors.Place.{Place}
 use Rattle.answers.specs.Limits.{beyond, argumentLimit}
-use Rattle.answers.specs.Lists.{any_of}
+use Rattle.answers.specs.Lists.{anyOf}
 
 -- ---- the arrays: three sides by two ends by three coordinates; three circles by centre and radius; three ranges by
 -- two ends
 
 -- an end of a side
-abbrev pub end_of : List (List Float) → ℕ → Place
-end_of ends k = placeAt (get_or ends k []) 0
+abbrev pub endOf : List (List Float) → ℕ → Place
+endOf ends k = placeAt (get_or ends k []) 0
 
 -- ---- 16: "a number not finite or above 2^20 in magnitude, r not above 0, sense above 2"
 
@@ -29,17 +29,17 @@ sphereWrong centre radius sense = placeBeyond centre || beyond argumentLimit rad
 
 unfoldable pub sidesBeyond : List (List (List Float)) → List (List Float) → List (List Float) → List (List (List Float)) → Bool
 sidesBeyond ends circles ranges evaluated =
-    any_of (any_of (any_of (beyond argumentLimit))) ends
-    || any_of (any_of (beyond argumentLimit)) circles
-    || any_of (any_of (beyond argumentLimit)) ranges
-    || any_of (any_of (any_of (beyond argumentLimit))) evaluated
+    anyOf (anyOf (anyOf (beyond argumentLimit))) ends
+    || anyOf (anyOf (beyond argumentLimit)) circles
+    || anyOf (anyOf (beyond argumentLimit)) ranges
+    || anyOf (anyOf (anyOf (beyond argumentLimit))) evaluated
 
 -- ---- 17: "circle centre or radius off by over r × 1e-6; sweep over PI; an evaluated end off its end, or an end off
 -- the sphere, by over r × 1e-5; `unit` fails"
 
 unfoldable pub circleWrong : Place → Float → Place → Float → Bool
 unfolding lt sub mul
-circleWrong centre radius circle circleRadius = lt (mul binary64 radius micro) (distance_of circle centre) || exceedsOf (sub binary64 circleRadius radius) (mul binary64 radius micro)
+circleWrong centre radius circle circleRadius = lt (mul binary64 radius micro) (distanceOf circle centre) || exceedsOf (sub binary64 circleRadius radius) (mul binary64 radius micro)
 
 unfoldable pub sweepWrong : Float → Float → Bool
 unfolding sub
@@ -49,9 +49,9 @@ sweepWrong from to = exceedsOf (sub binary64 to from) pi
 unfoldable pub endWrong : Place → Float → Place → Place → Bool
 unfolding lt sub mul
 endWrong centre radius end evaluated =
-    lt (mul binary64 radius endLimit) (distance_of evaluated end)
-    || exceedsOf (sub binary64 (length_of (minusOf end centre)) radius) (mul binary64 radius endLimit)
-    || unitFails (unit_of (minusOf end centre))
+    lt (mul binary64 radius endLimit) (distanceOf evaluated end)
+    || exceedsOf (sub binary64 (lengthOf (minusOf end centre)) radius) (mul binary64 radius endLimit)
+    || unitFails (unitOf (minusOf end centre))
 
 -- a side
 unfoldable pub sideWrong : Place → Float → List (List Float) → List Float → List Float → List (List Float) → Bool
@@ -59,8 +59,8 @@ unfolding circleWrong sweepWrong endWrong
 sideWrong centre radius ends circle range evaluated =
     circleWrong centre radius (placeAt circle 0) (get_or circle 3 nan)
     || sweepWrong (get_or range 0 nan) (get_or range 1 nan)
-    || endWrong centre radius (end_of ends 0) (end_of evaluated 0)
-    || endWrong centre radius (end_of ends 1) (end_of evaluated 1)
+    || endWrong centre radius (endOf ends 0) (endOf evaluated 0)
+    || endWrong centre radius (endOf ends 1) (endOf evaluated 1)
 
 -- the kth of the three
 unfoldable pub sideWrongAt : ℕ → Place → Float → List (List (List Float)) → List (List Float) → List (List Float) → List (List (List Float)) → Bool

@@ -3,7 +3,7 @@ ghost use Rattle.std.specs.Prelude.{◌||◌, ◌≡◌, get_or};
 ghost use Rattle.std.specs.Float.{nan};
 ghost use Rattle.space.specs.Places.{placeAt};
 ghost use Rattle.answers.specs.Limits.{beyond, argumentLimit};
-ghost use Rattle.answers.specs.Lists.{any_of};
+ghost use Rattle.answers.specs.Lists.{anyOf};
 ghost use Rattle.sides.specs.Sides.{placeBeyond, sphereWrong, sidesBeyond, circleWrong, endWrong, sideWrong, sidesWrong};
 
 use answers::{ARGUMENT_LIMIT, any_number_beyond, is_beyond};
@@ -50,7 +50,7 @@ pub fn sphere_wrong(centre: Place, radius: f64, sense: u32) -> bool
 
 // 16, of a side's ends, or of the evaluated ones.
 fn ends_beyond(ends: [[f64; 3]; 2]) -> bool
-    ensures { result ≡ any_of (any_of (beyond argumentLimit)) ends }
+    ensures { result ≡ anyOf (anyOf (beyond argumentLimit)) ends }
 {
     if any_number_beyond(ARGUMENT_LIMIT, &ends[0]) {
         true
@@ -66,7 +66,7 @@ fn side_beyond(
     range: [f64; 2],
     evaluated: [[f64; 3]; 2],
 ) -> bool
-    ensures { result ≡ (any_of (any_of (beyond argumentLimit)) ends || any_of (beyond argumentLimit) circle || any_of (beyond argumentLimit) range || any_of (any_of (beyond argumentLimit)) evaluated) }
+    ensures { result ≡ (anyOf (anyOf (beyond argumentLimit)) ends || anyOf (beyond argumentLimit) circle || anyOf (beyond argumentLimit) range || anyOf (anyOf (beyond argumentLimit)) evaluated) }
 {
     if ends_beyond(ends) {
         true

@@ -11,16 +11,16 @@ use Rattle.space.specs.Places.{triples, placeAt}
 
 -- ---- past the end, where a 0 over a 0 stands in the code
 
-pub past_end : (xs : List Float) {n : ℕ} → length xs ≤ n → div binary64 plusZero plusZero ≡ get_or xs n nan
+pub past-end : (xs : List Float) {n : ℕ} → length xs ≤ n → div binary64 plusZero plusZero ≡ get_or xs n nan
 unfolding div of_bits
-past_end xs h = sym (get_or-eq_default xs nan h)
+past-end xs h = sym (get_or-eq_default xs nan h)
 
 -- ---- one after the other
 
 -- another place stands at 3 * k
-pub triples_step : (xs : List Float) (k : ℕ) → 3 * k + 2 < length xs → triples (drop (3 * k) xs) ≡ placeAt xs (3 * k) ∷ triples (drop (3 * (k + 1)) xs)
+pub triples-step : (xs : List Float) (k : ℕ) → 3 * k + 2 < length xs → triples (drop (3 * k) xs) ≡ placeAt xs (3 * k) ∷ triples (drop (3 * (k + 1)) xs)
 unfolding triples
-triples_step xs k h =
+triples-step xs k h =
     let e : 3 * (k + 1) ≡ suc (suc (suc (3 * k))) = omega arith in
     let s : 3 * k + 1 ≡ suc (3 * k) = omega arith in
     let t : 3 * k + 2 ≡ suc (suc (3 * k)) = omega arith in

@@ -20,24 +20,24 @@ unfoldable pub dotOf : Place → Place → Float
 unfolding add mul
 dotOf a b = add binary64 (add binary64 (mul binary64 a.x b.x) (mul binary64 a.y b.y)) (mul binary64 a.z b.z)
 
-unfoldable pub cross_of : Place → Place → Place
+unfoldable pub crossOf : Place → Place → Place
 unfolding sub mul
-cross_of a b =
+crossOf a b =
     place
     (sub binary64 (mul binary64 a.y b.z) (mul binary64 a.z b.y))
     (sub binary64 (mul binary64 a.z b.x) (mul binary64 a.x b.z))
     (sub binary64 (mul binary64 a.x b.y) (mul binary64 a.y b.x))
 
 -- document 01's three-term hypotenuse of the difference
-unfoldable pub distance_of : Place → Place → Float
+unfoldable pub distanceOf : Place → Place → Float
 unfolding sub
-distance_of a b = hypot3Of (sub binary64 a.x b.x) (sub binary64 a.y b.y) (sub binary64 a.z b.z)
+distanceOf a b = hypot3Of (sub binary64 a.x b.x) (sub binary64 a.y b.y) (sub binary64 a.z b.z)
 
 -- ---- `unit`: a root, not a hypotenuse
 
-unfoldable pub length_of : Place → Float
+unfoldable pub lengthOf : Place → Float
 unfolding dotOf
-length_of v = rootOf (dotOf v v)
+lengthOf v = rootOf (dotOf v v)
 
 -- "length > PARALLEL && length.is_finite()": a length above PARALLEL is finite where it is below infinity
 unfoldable pub unitServes : Float → Bool
@@ -49,9 +49,9 @@ unfoldable pub over : Place → Float → Place
 unfolding div
 over v length = place (div binary64 v.x length) (div binary64 v.y length) (div binary64 v.z length)
 
-unfoldable pub unit_of : Place → UnitVector
-unfolding unitServes over length_of
-unit_of v = cond (unitServes (length_of v)) (Along (over v (length_of v))) Missing
+unfoldable pub unitOf : Place → UnitVector
+unfolding unitServes over lengthOf
+unitOf v = cond (unitServes (lengthOf v)) (Along (over v (lengthOf v))) Missing
 
 unfoldable pub unitFails : UnitVector → Bool
 unitFails (Along p) = false

@@ -1,6 +1,6 @@
 // Differences, products and lengths, operation by operation as in sketch.rs.
 ghost use Rattle.std.specs.Prelude.{◌≡◌};
-ghost use Rattle.space.specs.Vectors.{minusOf, dotOf, cross_of, distance_of, length_of, unitServes, over as overOf, unit_of, unitFails, alongOf};
+ghost use Rattle.space.specs.Vectors.{minusOf, dotOf, crossOf, distanceOf, lengthOf, unitServes, over as overOf, unitOf, unitFails, alongOf};
 
 use leaves::constants::PARALLEL;
 
@@ -35,7 +35,7 @@ pub fn dot(a: Place, b: Place) -> f64
 }
 
 pub fn cross(a: Place, b: Place) -> Place
-    ensures { result ≡ cross_of a b }
+    ensures { result ≡ crossOf a b }
 {
     Place {
         x: a.y * b.z - a.z * b.y,
@@ -46,14 +46,14 @@ pub fn cross(a: Place, b: Place) -> Place
 
 // The three-term hypotenuse of a - b.
 pub fn distance(a: Place, b: Place) -> f64
-    ensures { result ≡ distance_of a b }
+    ensures { result ≡ distanceOf a b }
 {
     leaves::hypot3(a.x - b.x, a.y - b.y, a.z - b.z)
 }
 
 // The root of v dot v; no hypotenuse.
 pub fn length(v: Place) -> f64
-    ensures { result ≡ length_of v }
+    ensures { result ≡ lengthOf v }
 {
     leaves::root(dot(v, v))
 }
@@ -82,7 +82,7 @@ fn over(v: Place, length: f64) -> Place
 
 // The vector of length one along v, where v is longer than PARALLEL and its length finite.
 pub fn unit(v: Place) -> UnitVector
-    ensures { result ≡ unit_of v }
+    ensures { result ≡ unitOf v }
 {
     let size = length(v);
     if serves(size) {

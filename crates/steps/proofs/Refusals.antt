@@ -8,11 +8,11 @@ use lib.Ieee.{Float}
 use Rattle.leaves.proofs.Folds.{All}
 use Rattle.answers.specs.Outcome.{Check, first, refused, settled, OneOf}
 use Rattle.answers.specs.Answers.{valued}
-use Rattle.answers.proofs.FirstCheck.{first_holds}
+use Rattle.answers.proofs.FirstCheck.{first-holds}
 use Rattle.answers.proofs.Settled.{settled-zeros, settled-holds}
 use Rattle.steps.specs.Sample.{sampleParameterOf}
 use Rattle.steps.specs.Direction.{directionOf}
-use Rattle.steps.specs.Placed.{placed_of}
+use Rattle.steps.specs.Placed.{placedOf}
 
 -- ---- a table before three values
 
@@ -21,7 +21,7 @@ module _ (checks : List Check) (x y z : Float) where
   table-refused = settled-zeros (first checks) (valued x y z) (λ h. absurd (h refl))
 
   table-status : (ns : List ℕ) → OneOf ns 0 → All (λ (c : Check). OneOf ns c.number) checks → OneOf ns (settled (first checks) (valued x y z)).status
-  table-status ns none h = settled-holds (OneOf ns) (first checks) (valued x y z) (first_holds (OneOf ns) none checks h) none
+  table-status ns none h = settled-holds (OneOf ns) (first checks) (valued x y z) (first-holds (OneOf ns) none checks h) none
 
 -- ---- the calls
 
@@ -44,10 +44,10 @@ module _ (points : List Float) where
   direction-status = table-status _ _ _ _ (0 ∷ 16 ∷ []) (inl refl) (inr (inl refl), tt)
 
 module _ (transform point : List Float) where
-  pub placed-refused : ((placed_of transform point).status ≡ 0 → ⊥) → placed_of transform point ≡ refused (placed_of transform point).status
-  unfolding placed_of
+  pub placed-refused : ((placedOf transform point).status ≡ 0 → ⊥) → placedOf transform point ≡ refused (placedOf transform point).status
+  unfolding placedOf
   placed-refused = table-refused _ _ _ _
 
-  pub placed-status : OneOf (0 ∷ 16 ∷ 24 ∷ []) (placed_of transform point).status
-  unfolding placed_of
+  pub placed-status : OneOf (0 ∷ 16 ∷ 24 ∷ []) (placedOf transform point).status
+  unfolding placedOf
   placed-status = table-status _ _ _ _ (0 ∷ 16 ∷ 24 ∷ []) (inl refl) (inr (inl refl), (inr (inr (inl refl)), tt))

@@ -5,7 +5,7 @@ use Rattle.std.specs.Prelude.{Bool, cond, ◌&&◌, List, [], ◌∷◌, Float}
 use Rattle.std.specs.Float.Ieee.{lt}
 use Rattle.leaves.specs.Constants.{plusZero, greatestFinite, joinLimit}
 use Rattle.space.specs.Places.{placeAt}
-use Rattle.space.specs.Vectors.{distance_of}
+use Rattle.space.specs.Vectors.{distanceOf}
 use Rattle.space.specs.declared.vectors.Place.{Place}
 use Rattle.answers.specs.Outcome.{check, first, Numbers, settled}
 use Rattle.answers.specs.Answers.{valued, yes}
@@ -14,13 +14,13 @@ use Rattle.answers.specs.Limits.{missing}
 -- "the last image is nearer the start": of the first image, the last one, and the start
 unfoldable pub reversesOf : Place → Place → Place → Bool
 unfolding lt
-reversesOf front back start = lt (distance_of back start) (distance_of front start)
+reversesOf front back start = lt (distanceOf back start) (distanceOf front start)
 
 -- "then both ends lie nearer than 1e-4": of the first image and the last one, as they are after the reversal, the start
 -- and the end
 unfoldable pub keepsOf : Place → Place → Place → Place → Bool
 unfolding lt
-keepsOf front back start end = lt (distance_of front start) joinLimit && lt (distance_of back end) joinLimit
+keepsOf front back start end = lt (distanceOf front start) joinLimit && lt (distanceOf back end) joinLimit
 
 unfoldable pub directed : Place → Place → Place → Place → Numbers
 unfolding reversesOf keepsOf

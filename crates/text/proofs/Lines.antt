@@ -66,13 +66,13 @@ pub refusal-line-length : (n : ℕ) → n < 2 ^ 32 → length (refusalLine n) �
 unfolding refusalLine
 refusal-line-length n h = rw length-append (omega (arith, decimal-length 9 n (omega arith)))
 
-pub number_more : {n at : ℕ} {text w : List ℕ} (x : Float) (after : List ℕ) (r : ℕ) → Begun n at text w → length after ≡ length text → r ≡ at + 17 → take r after ≡ take at text ++ number x → Begun n r after (w ++ number x)
-number_more x after r g k p q = part-more (number x) after r g k (rw number-length p) q
+pub number-more : {n at : ℕ} {text w : List ℕ} (x : Float) (after : List ℕ) (r : ℕ) → Begun n at text w → length after ≡ length text → r ≡ at + 17 → take r after ≡ take at text ++ number x → Begun n r after (w ++ number x)
+number-more x after r g k p q = part-more (number x) after r g k (rw number-length p) q
 
 -- a space and then the bits, each behind what stands
-pub number_put : (x : Float) (at s r bits : ℕ) (text t after : List ℕ) → at + 17 ≤ length text → length t ≡ length text → s ≡ behind at (space ∷ []) text → t ≡ laid at (space ∷ []) text → bits ≡ to_bits binary64 x → r ≡ behind s (hexadecimal bits) t → after ≡ laid s (hexadecimal bits) t → (r ≡ at + 17) × (take r after ≡ take at text ++ number x)
+pub number-put : (x : Float) (at s r bits : ℕ) (text t after : List ℕ) → at + 17 ≤ length text → length t ≡ length text → s ≡ behind at (space ∷ []) text → t ≡ laid at (space ∷ []) text → bits ≡ to_bits binary64 x → r ≡ behind s (hexadecimal bits) t → after ≡ laid s (hexadecimal bits) t → (r ≡ at + 17) × (take r after ≡ take at text ++ number x)
 unfolding number
-number_put x at s r bits text t after h k p q e u v =
+number-put x at s r bits text t after h k p q e u v =
     let b = put-behind at (space ∷ []) text s t (omega arith) p q in
     let d = put-behind s (hexadecimal bits) t r after (omega (arith, digits-length 16 bits, b.0)) u v in
     (omega (arith, digits-length 16 bits, b.0, d.0), d.1 ∙ rw (b.1, e, append_assoc))

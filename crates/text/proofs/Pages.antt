@@ -15,9 +15,9 @@ within-either at end most true e h = leb-true end most e
 within-either at end most false e h = h
 
 module _ (at : ℕ) (bytes page : List ℕ) where
-  pub no_room : length page < at + length bytes → (at ≡ behind at bytes page) × (page ≡ laid at bytes page)
+  pub no-room : length page < at + length bytes → (at ≡ behind at bytes page) × (page ≡ laid at bytes page)
   unfolding behind laid
-  no_room h = (rw (lt-leb (at + length bytes) (length page) h), rw (lt-leb (at + length bytes) (length page) h))
+  no-room h = (rw (lt-leb (at + length bytes) (length page) h), rw (lt-leb (at + length bytes) (length page) h))
 
   pub in-room : at + length bytes ≤ length page → (at + length bytes ≡ behind at bytes page) × (paste page at bytes (length bytes) ≡ laid at bytes page)
   unfolding behind laid
@@ -37,8 +37,8 @@ module _ (at : ℕ) (bytes page : List ℕ) where
   put-within r after h k p = rw (p, k) (within-either at (at + length bytes) (length page) _ refl h)
 
 -- what a writer leaves that starts at the page's start and has room: the page begins with the bytes
-pub put_first : (bytes page : List ℕ) (r : ℕ) (after : List ℕ) → length bytes ≤ length page → length after ≡ length page → r ≡ behind 0 bytes page → after ≡ laid 0 bytes page → ((r ≤ length after) × (r ≡ length (take r after))) × (take r after ≡ bytes)
-put_first bytes page r after h k p q =
+pub put-first : (bytes page : List ℕ) (r : ℕ) (after : List ℕ) → length bytes ≤ length page → length after ≡ length page → r ≡ behind 0 bytes page → after ≡ laid 0 bytes page → ((r ≤ length after) × (r ≡ length (take r after))) × (take r after ≡ bytes)
+put-first bytes page r after h k p q =
     let i = put-behind 0 bytes page r after (omega arith) p q in
     let l : r ≤ length after = omega (arith, i.0) in
     ((l, sym (length-take-le r after l)), i.1)

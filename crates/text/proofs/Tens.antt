@@ -64,12 +64,12 @@ ten-places (suc i) rest h l =
     let p : rest < 10 ^ suc i * 10 = rw (add-one, pow-suc) at l in
     (omega arith, rw z (omega arith))
 
-by_ten : {A : Type 0} (n : ℕ) (t : Bool) → ltb n 10 ≡ t → (n < 10 → A) → (10 ≤ n → A) → A
-by_ten n true e f g = f (ltb-true n 10 e)
-by_ten n false e f g = g (ltb-false n 10 e)
+by-ten : {A : Type 0} (n : ℕ) (t : Bool) → ltb n 10 ≡ t → (n < 10 → A) → (10 ≤ n → A) → A
+by-ten n true e f g = f (ltb-true n 10 e)
+by-ten n false e f g = g (ltb-false n 10 e)
 
 pub decimal-length : (k n : ℕ) → n < 10 ^ suc k → length (decimal n) ≤ suc k
 decimal-length zero n h = rw (one-digit n h) (omega arith)
 decimal-length (suc k) n h =
     let p : n < 10 ^ suc k * 10 = rw pow-suc at h in
-    by_ten n _ refl (λ l. rw (one-digit n l) (omega arith)) (λ l. rw (last-digit n l, length-append) (omega (arith, decimal-length k (n / 10) (omega arith))))
+    by-ten n _ refl (λ l. rw (one-digit n l) (omega arith)) (λ l. rw (last-digit n l, length-append) (omega (arith, decimal-length k (n / 10) (omega arith))))

@@ -8,7 +8,7 @@ use Prim.Native.Nat.{ℕ}
 use lib.Ieee.{Float}
 use Rattle.space.specs.declared.vectors.Place.{Place}
 use Rattle.answers.specs.Outcome.{refused, OneOf}
-use Rattle.answers.proofs.FirstCheck.{first_holds}
+use Rattle.answers.proofs.FirstCheck.{first-holds}
 use Rattle.answers.proofs.Settled.{settled-zeros, settled-holds}
 use Rattle.triangle.specs.declared.arcs.Arc.{Arc}
 use Rattle.triangle.specs.Triangle.{triangleAmong, triangleOf}
@@ -24,7 +24,7 @@ module _ (centre : Place) (radius : Float) (sense : ℕ) (a b c : Arc) where
 
   among-status : OneOf statuses (triangleAmong centre radius sense a b c).status
   unfolding triangleAmong
-  among-status = settled-holds (OneOf statuses) _ _ (first_holds (OneOf statuses) (inl refl) _ (inr (inr (inr (inl refl))), (inr (inr (inr (inr (inl refl)))), tt))) (inl refl)
+  among-status = settled-holds (OneOf statuses) _ _ (first-holds (OneOf statuses) (inl refl) _ (inr (inr (inr (inl refl))), (inr (inr (inr (inr (inl refl)))), tt))) (inl refl)
 
 module _ (centre : Place) (radius : Float) (sense : ℕ) (ends : List (List (List Float))) (reversed : List Bool) (circles ranges : List (List Float)) (evaluated : List (List (List Float))) where
   pub triangle-refused : ((triangleOf centre radius sense ends reversed circles ranges evaluated).status ≡ 0 → ⊥) → triangleOf centre radius sense ends reversed circles ranges evaluated ≡ refused (triangleOf centre radius sense ends reversed circles ranges evaluated).status
@@ -34,4 +34,4 @@ module _ (centre : Place) (radius : Float) (sense : ℕ) (ends : List (List (Lis
   -- a number of the table
   pub triangle-status : OneOf statuses (triangleOf centre radius sense ends reversed circles ranges evaluated).status
   unfolding triangleOf
-  triangle-status = settled-holds (OneOf statuses) _ _ (first_holds (OneOf statuses) (inl refl) _ (inr (inl refl), (inr (inr (inl refl)), tt))) (among-status centre radius sense _ _ _)
+  triangle-status = settled-holds (OneOf statuses) _ _ (first-holds (OneOf statuses) (inl refl) _ (inr (inl refl), (inr (inr (inl refl)), tt))) (among-status centre radius sense _ _ _)

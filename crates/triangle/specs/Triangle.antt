@@ -5,31 +5,31 @@ use Rattle.std.specs.Prelude.{Bool, false, cond, ◌||◌, List, [], ◌∷◌, 
 use Rattle.std.specs.Float.{binary64}
 use Rattle.std.specs.Float.Ieee.{neg, add, mul, lt, le}
 use Rattle.leaves.specs.Constants.{plusZero, micro, endLimit, one}
-use Rattle.space.specs.Vectors.{place, minusOf, dotOf, cross_of, distance_of, unit_of, unitFails, alongOf}
+use Rattle.space.specs.Vectors.{place, minusOf, dotOf, crossOf, distanceOf, unitOf, unitFails, alongOf}
 use Rattle.space.specs.declared.vectors.Place.{Place}
 use Rattle.space.specs.declared.vectors.UnitVector.{UnitVector}
 use Rattle.answers.specs.Outcome.{check, first, Numbers, settled}
 use Rattle.answers.specs.Answers.{valued}
-use Rattle.sides.specs.Sides.{end_of, sphereWrong, sidesBeyond, sidesWrong}
+use Rattle.sides.specs.Sides.{endOf, sphereWrong, sidesBeyond, sidesWrong}
 use Rattle.triangle.specs.declared.arcs.Arc.{Arc}
 
 -- ---- the directions of a side's ends, after the reversal
 
 unfoldable pub towards : Place → Place → Place
-towards centre p = alongOf (unit_of (minusOf p centre))
+towards centre p = alongOf (unitOf (minusOf p centre))
 
 abbrev pub arc : Place → Place → Arc
 arc start end = record { start = start; end = end }
 
 unfoldable pub arcOf : Place → List (List Float) → Bool → Arc
 unfolding towards
-arcOf centre ends reversed = cond reversed (arc (towards centre (end_of ends 1)) (towards centre (end_of ends 0))) (arc (towards centre (end_of ends 0)) (towards centre (end_of ends 1)))
+arcOf centre ends reversed = cond reversed (arc (towards centre (endOf ends 1)) (towards centre (endOf ends 0))) (arc (towards centre (endOf ends 0)) (towards centre (endOf ends 1)))
 
 -- ---- 18: "a side's end direction over 1e-5 from the next's start"
 
 unfoldable pub isGap : Place → Place → Bool
 unfolding lt
-isGap end start = lt endLimit (distance_of end start)
+isGap end start = lt endLimit (distanceOf end start)
 
 unfoldable pub gapAmong : Arc → Arc → Arc → Bool
 unfolding isGap
@@ -39,31 +39,31 @@ gapAmong a b c = isGap a.end b.start || isGap b.end c.start || isGap c.end a.sta
 -- sign
 
 -- of the three start directions, from +0
-unfoldable pub sum_of : Float → Float → Float → Float
+unfoldable pub sumOf : Float → Float → Float → Float
 unfolding add
-sum_of a b c = add binary64 (add binary64 (add binary64 plusZero a) b) c
+sumOf a b c = add binary64 (add binary64 (add binary64 plusZero a) b) c
 
 unfoldable pub startSum : Place → Place → Place → Place
-unfolding sum_of
-startSum a b c = place (sum_of a.x b.x c.x) (sum_of a.y b.y c.y) (sum_of a.z b.z c.z)
+unfolding sumOf
+startSum a b c = place (sumOf a.x b.x c.x) (sumOf a.y b.y c.y) (sumOf a.z b.z c.z)
 
 -- the unit of the sum
-unfoldable pub inner_of : Arc → Arc → Arc → UnitVector
+unfoldable pub innerOf : Arc → Arc → Arc → UnitVector
 unfolding startSum
-inner_of a b c = unit_of (startSum a.start b.start c.start)
+innerOf a b c = unitOf (startSum a.start b.start c.start)
 
 -- +1 forward, −1 reversed
-unfoldable pub sign_of : ℕ → Float
+unfoldable pub signOf : ℕ → Float
 unfolding neg
-sign_of sense = cond (eqb sense 1) one (neg one)
+signOf sense = cond (eqb sense 1) one (neg one)
 
 unfoldable pub outside : Float → Place → Arc → Bool
 unfolding le mul
-outside sign p a = le (mul binary64 (dotOf (cross_of a.start a.end) p) sign) micro
+outside sign p a = le (mul binary64 (dotOf (crossOf a.start a.end) p) sign) micro
 
 unfoldable pub noInterior : ℕ → Place → Arc → Arc → Arc → Bool
-unfolding outside sign_of
-noInterior sense p a b c = eqb sense 0 || outside (sign_of sense) p a || outside (sign_of sense) p b || outside (sign_of sense) p c
+unfolding outside signOf
+noInterior sense p a b c = eqb sense 0 || outside (signOf sense) p a || outside (signOf sense) p b || outside (signOf sense) p c
 
 -- ---- the answer: centre + r × p
 
@@ -77,11 +77,11 @@ onSphere centre radius p = valued (reachOf centre.x radius p.x) (reachOf centre.
 
 -- of the three sides' directions
 unfoldable pub triangleAmong : Place → Float → ℕ → Arc → Arc → Arc → Numbers
-unfolding gapAmong inner_of noInterior onSphere
+unfolding gapAmong innerOf noInterior onSphere
 triangleAmong centre radius sense a b c =
     settled
-    (first (check 18 (gapAmong a b c) ∷ check 19 (unitFails (inner_of a b c) || noInterior sense (alongOf (inner_of a b c)) a b c) ∷ []))
-    (onSphere centre radius (alongOf (inner_of a b c)))
+    (first (check 18 (gapAmong a b c) ∷ check 19 (unitFails (innerOf a b c) || noInterior sense (alongOf (innerOf a b c)) a b c) ∷ []))
+    (onSphere centre radius (alongOf (innerOf a b c)))
 
 unfoldable pub triangleOf : Place → Float → ℕ → List (List (List Float)) → List Bool → List (List Float) → List (List Float) → List (List (List Float)) → Numbers
 unfolding triangleAmong arcOf

@@ -11,16 +11,16 @@ use lib.Ieee.{Float}
 use lib.ListN.{length, drop}
 use borrow.Author.Tests.{ltb-false}
 use Rattle.space.specs.Places.{triples, placeAt}
-use Rattle.space.specs.Vectors.{cross_of}
+use Rattle.space.specs.Vectors.{crossOf}
 use Rattle.space.specs.declared.vectors.Place.{Place}
-use Rattle.space.proofs.Triples.{triples_step, triples-end}
+use Rattle.space.proofs.Triples.{triples-step, triples-end}
 use Rattle.sheet.specs.Content.{Point, pairs, flat}
 use Rattle.answers.specs.Outcome.{Numbers, refused}
 use Rattle.answers.proofs.AnyOf.{neither}
 use Rattle.answers.proofs.Settled.{settled-later, settled-empty}
-use Rattle.points.specs.Bounds.{last_of}
+use Rattle.points.specs.Bounds.{lastOf}
 use Rattle.points.proofs.Flat.{pairs-flat}
-use Rattle.points.proofs.RingFolds.{last_none, last-next}
+use Rattle.points.proofs.RingFolds.{last-none, last-next}
 use Rattle.answers.specs.Answers.{valued, positionPaper, isPosition}
 use Rattle.answers.specs.declared.outcomes.PositionAnswer.{PositionAnswer}
 use Rattle.answers.specs.declared.outcomes.PositionAnswer.TheVariants.{Position, Refused as NoPosition}
@@ -41,15 +41,15 @@ corners-right corners e =
 
 module _ (xs : List Float) where
   -- n places after the k-th
-  last-after : (n k : ℕ) → k + n + 1 ≡ length xs / 3 → last_of (placeAt xs (3 * k)) (triples (drop (3 * (k + 1)) xs)) ≡ placeAt xs (3 * (k + n))
+  last-after : (n k : ℕ) → k + n + 1 ≡ length xs / 3 → lastOf (placeAt xs (3 * k)) (triples (drop (3 * (k + 1)) xs)) ≡ placeAt xs (3 * (k + n))
   last-after zero k e =
       let same : k ≡ k + 0 = omega arith in
-      last_none (placeAt xs (3 * k)) (triples-end xs (k + 1) (omega arith)) ∙ ap (λ (m : ℕ). placeAt xs (3 * m)) same
+      last-none (placeAt xs (3 * k)) (triples-end xs (k + 1) (omega arith)) ∙ ap (λ (m : ℕ). placeAt xs (3 * m)) same
   last-after (suc n) k e =
       let same : k + 1 + n ≡ k + suc n = omega arith in
-      last-next (placeAt xs (3 * k)) (triples_step xs (k + 1) (omega arith)) ∙ last-after n (k + 1) (omega arith) ∙ ap (λ (m : ℕ). placeAt xs (3 * m)) same
+      last-next (placeAt xs (3 * k)) (triples-step xs (k + 1) (omega arith)) ∙ last-after n (k + 1) (omega arith) ∙ ap (λ (m : ℕ). placeAt xs (3 * m)) same
 
-  last-place : 0 < length xs / 3 → last_of (placeAt xs 0) (triples (drop 3 xs)) ≡ placeAt xs (3 * (length xs / 3 - 1))
+  last-place : 0 < length xs / 3 → lastOf (placeAt xs 0) (triples (drop 3 xs)) ≡ placeAt xs (3 * (length xs / 3 - 1))
   last-place h =
       let n = length xs / 3 - 1 in
       let same : 0 + n ≡ n = omega arith in
@@ -57,7 +57,7 @@ module _ (xs : List Float) where
 
   corners-start : 0 < length xs / 3 → cornersOf (triples xs) ≡ cornersFrom (placeAt xs 0) (placeAt xs (3 * (length xs / 3 - 1))) (placeAt xs 0) (triples (drop (3 * 1) xs))
   unfolding cornersOf
-  corners-start h = ap cornersOf (triples_step xs 0 (omega arith)) ∙ ap (λ (p : Place). cornersFrom (placeAt xs 0) p (placeAt xs 0) (triples (drop 3 xs))) (last-place h)
+  corners-start h = ap cornersOf (triples-step xs 0 (omega arith)) ∙ ap (λ (p : Place). cornersFrom (placeAt xs 0) p (placeAt xs 0) (triples (drop 3 xs))) (last-place h)
 
 -- ---- the first that serves
 
@@ -70,13 +70,13 @@ Told r whole = (positionPaper r ≡ whole) × (isPosition r ≡ eqb (positionPap
 
 -- by whether the corner that comes first serves
 module _ (serves : Corner → Bool) where
-  at_first : {cs rest : List Corner} {c : Corner} (b : Bool) → cs ≡ c ∷ rest → serves c ≡ b → firstServing serves cs ≡ cond b (answeredAt (centreOf c)) (firstServing serves rest)
+  at-first : {cs rest : List Corner} {c : Corner} (b : Bool) → cs ≡ c ∷ rest → serves c ≡ b → firstServing serves cs ≡ cond b (answeredAt (centreOf c)) (firstServing serves rest)
   unfolding firstServing
-  at_first {rest = rest} {c = c} b e t = ap (firstServing serves) e ∙ ap (λ (d : Bool). cond d (answeredAt (centreOf c)) (firstServing serves rest)) t
+  at-first {rest = rest} {c = c} b e t = ap (firstServing serves) e ∙ ap (λ (d : Bool). cond d (answeredAt (centreOf c)) (firstServing serves rest)) t
 
-  at_none : firstServing serves [] ≡ refused 21
+  at-none : firstServing serves [] ≡ refused 21
   unfolding firstServing
-  at_none = refl
+  at-none = refl
 
 -- the search has come here, where the next place is the k-th: among the corners from here on the answer is `whole`
 pub record Searching (serves : Corner → Bool) (xs : List Float) (start before here : Place) (k : ℕ) (whole : Numbers) : Type 0 where
@@ -89,19 +89,19 @@ module _ {serves : Corner → Bool} {xs : List Float} {start before here : Place
   -- the call answers the centre of the corner that serves
   answers : {cs : List Corner} {p : Place} {r : PositionAnswer} (c : Corner) → cornersFrom start before here (triples (drop (3 * k) xs)) ≡ c ∷ cs → serves c ≡ true → p ≡ centreOf c → r ≡ Position p.x p.y p.z → Told r whole
   answers {p = p} c e t here answer =
-      (ap positionPaper answer ∙ paper-position p.x p.y p.z ∙ ap answeredAt here ∙ sym (at_first serves true e t) ∙ search.among, rw answer (position-answers p.x p.y p.z))
+      (ap positionPaper answer ∙ paper-position p.x p.y p.z ∙ ap answeredAt here ∙ sym (at-first serves true e t) ∙ search.among, rw answer (position-answers p.x p.y p.z))
 
   -- another place follows
   module _ {after : Place} {test : Bool} (room : k < length xs / 3) (place : after ≡ placeAt xs (3 * k)) (tested : test ≡ serves (corner before here after)) where
     next : cornersFrom start before here (triples (drop (3 * k) xs)) ≡ corner before here after ∷ cornersFrom start here after (triples (drop (3 * (k + 1)) xs))
     unfolding cornersFrom
-    next = ap (cornersFrom start before here) (triples_step xs k (omega arith) ∙ ap (λ (p : Place). p ∷ triples (drop (3 * (k + 1)) xs)) (sym place))
+    next = ap (cornersFrom start before here) (triples-step xs k (omega arith) ∙ ap (λ (p : Place). p ∷ triples (drop (3 * (k + 1)) xs)) (sym place))
 
     pub turn-found : {p : Place} {r : PositionAnswer} → test ≡ true → p ≡ centreOf (corner before here after) → r ≡ Position p.x p.y p.z → Told r whole
     turn-found t = answers (corner before here after) next (sym tested ∙ t)
 
     pub turn-passed : test ≡ false → Searching serves xs start here after (k + 1) whole
-    turn-passed t = record { among = sym (at_first serves false next (sym tested ∙ t)) ∙ search.among }
+    turn-passed t = record { among = sym (at-first serves false next (sym tested ∙ t)) ∙ search.among }
 
   -- none does: the last corner, before the first
   module _ {test : Bool} (over : length xs / 3 ≤ k) (tested : test ≡ serves (corner before here start)) where
@@ -109,11 +109,11 @@ module _ {serves : Corner → Bool} {xs : List Float} {start before here : Place
     unfolding cornersFrom
     last = ap (cornersFrom start before here) (triples-end xs k over)
 
-    pub last_found : {p : Place} {r : PositionAnswer} → test ≡ true → p ≡ centreOf (corner before here start) → r ≡ Position p.x p.y p.z → Told r whole
-    last_found t = answers (corner before here start) last (sym tested ∙ t)
+    pub last-found : {p : Place} {r : PositionAnswer} → test ≡ true → p ≡ centreOf (corner before here start) → r ≡ Position p.x p.y p.z → Told r whole
+    last-found t = answers (corner before here start) last (sym tested ∙ t)
 
-    pub none_found : test ≡ false → Told (NoPosition 21) whole
-    none_found t = (paper-no-position 21 ∙ sym (at_first serves false last (sym tested ∙ t) ∙ at_none serves) ∙ search.among, refused-no-position 21 (λ z. omega (arith, z)))
+    pub none-found : test ≡ false → Told (NoPosition 21) whole
+    none-found t = (paper-no-position 21 ∙ sym (at-first serves false last (sym tested ∙ t) ∙ at-none serves) ∙ search.among, refused-no-position 21 (λ z. omega (arith, z)))
 
 -- ---- the call
 
@@ -123,11 +123,11 @@ unfolding pointAmong
 ring-among u v places e h = h ∙ ap (λ (ps : List Point). firstServing (servesOf u v ps) (cornersOf places)) (ap pairs e ∙ pairs-flat (map (flattened u v) places))
 
 -- lists that pass 16 and 20 are answered
-pub point-on-answered : {u n v : Place} {answer : Numbers} (uAxis normal corners : List Float) → verticesWrong uAxis normal corners ≡ false → cornersWrong corners ≡ false → u ≡ placeAt uAxis 0 → n ≡ placeAt normal 0 → v ≡ cross_of n u → answer ≡ pointAmong u v (triples corners) → answer ≡ pointOnOf uAxis normal corners
+pub point-on-answered : {u n v : Place} {answer : Numbers} (uAxis normal corners : List Float) → verticesWrong uAxis normal corners ≡ false → cornersWrong corners ≡ false → u ≡ placeAt uAxis 0 → n ≡ placeAt normal 0 → v ≡ crossOf n u → answer ≡ pointAmong u v (triples corners) → answer ≡ pointOnOf uAxis normal corners
 unfolding pointOnOf
 point-on-answered uAxis normal corners vertices shape eu en ev h =
     h
-    ∙ (λ i. pointAmong (eu i) ((ev ∙ (λ j. cross_of (en j) (eu j))) i) (triples corners))
+    ∙ (λ i. pointAmong (eu i) ((ev ∙ (λ j. crossOf (en j) (eu j))) i) (triples corners))
     ∙ sym (settled-later 16 (verticesWrong uAxis normal corners) _ _ vertices ∙ settled-later 20 (cornersWrong corners) _ _ shape ∙ settled-empty _)
 
 -- ---- as an outcome

@@ -6,10 +6,10 @@ use mathlib.Core.Logic.{inl, inr}
 use Prim.Native.Nat.{ℕ}
 use lib.Ieee.{Float}
 use Rattle.space.specs.Places.{triples, placeAt}
-use Rattle.space.specs.Vectors.{cross_of}
+use Rattle.space.specs.Vectors.{crossOf}
 use Rattle.space.specs.declared.vectors.Place.{Place}
 use Rattle.answers.specs.Outcome.{refused, OneOf}
-use Rattle.answers.proofs.FirstCheck.{first_holds}
+use Rattle.answers.proofs.FirstCheck.{first-holds}
 use Rattle.answers.proofs.Settled.{settled-zeros, settled-holds}
 use Rattle.vertex_fallback.specs.Vertices.{pointAmong, pointOnOf}
 use Rattle.vertex_fallback.proofs.Corners.{among-status, among-zeros}
@@ -19,7 +19,7 @@ module _ (uAxis normal corners : List Float) where
   u = placeAt uAxis 0
 
   abbrev v : Place
-  v = cross_of (placeAt normal 0) u
+  v = crossOf (placeAt normal 0) u
 
   pub point-on-refused : ((pointOnOf uAxis normal corners).status ≡ 0 → ⊥) → pointOnOf uAxis normal corners ≡ refused (pointOnOf uAxis normal corners).status
   unfolding pointOnOf
@@ -29,4 +29,4 @@ module _ (uAxis normal corners : List Float) where
   unfolding pointOnOf
   point-on-status =
       let P : ℕ → Type 0 = OneOf (0 ∷ 16 ∷ 20 ∷ 21 ∷ []) in
-      settled-holds P _ (pointAmong u v (triples corners)) (first_holds P (inl refl) _ (inr (inl refl), (inr (inr (inl refl)), tt))) (among-status u v (triples corners) P (inl refl) (inr (inr (inr (inl refl)))))
+      settled-holds P _ (pointAmong u v (triples corners)) (first-holds P (inl refl) _ (inr (inl refl), (inr (inr (inl refl)), tt))) (among-status u v (triples corners) P (inl refl) (inr (inr (inr (inl refl)))))

@@ -6,20 +6,20 @@ use Rattle.std.specs.Float.{binary64}
 use Rattle.std.specs.Float.Ieee.{of_bits, add, div, lt}
 use Rattle.leaves.specs.Constants.{degenerateLimit}
 use Rattle.space.specs.Places.{triples, placeAt}
-use Rattle.space.specs.Vectors.{place, minusOf, dotOf, cross_of}
+use Rattle.space.specs.Vectors.{place, minusOf, dotOf, crossOf}
 use Rattle.space.specs.declared.vectors.Place.{Place}
 use Rattle.answers.specs.Outcome.{check, first, Numbers, refused, settled}
 use Rattle.answers.specs.Limits.{beyond, argumentLimit, missing}
 use Rattle.sheet.specs.Content.{Point, point}
-use Rattle.answers.specs.Lists.{any_of}
-use Rattle.points.specs.Bounds.{last_of}
+use Rattle.answers.specs.Lists.{anyOf}
+use Rattle.points.specs.Bounds.{lastOf}
 use Rattle.inside.specs.Inside.{insideOf}
 use Rattle.answers.specs.Answers.{valued}
 
 -- ---- 16 and 20
 
 unfoldable pub verticesWrong : List Float → List Float → List Float → Bool
-verticesWrong uAxis normal corners = missing 3 argumentLimit uAxis || missing 3 argumentLimit normal || any_of (beyond argumentLimit) corners
+verticesWrong uAxis normal corners = missing 3 argumentLimit uAxis || missing 3 argumentLimit normal || anyOf (beyond argumentLimit) corners
 
 abbrev pub mostCorners : ℕ
 mostCorners = 128
@@ -44,7 +44,7 @@ cornersFrom start before here (after ∷ rest) = corner before here after ∷ co
 unfoldable pub cornersOf : List Place → List Corner
 unfolding cornersFrom
 cornersOf [] = []
-cornersOf (p ∷ ps) = cornersFrom p (last_of p ps) p ps
+cornersOf (p ∷ ps) = cornersFrom p (lastOf p ps) p ps
 
 -- ---- which of them serves
 
@@ -66,7 +66,7 @@ centreOf c =
 
 -- the cross product of the sides from the first of the three to the two others
 unfoldable pub normalOf : Corner → Place
-normalOf c = cross_of (minusOf c.here c.before) (minusOf c.after c.before)
+normalOf c = crossOf (minusOf c.here c.before) (minusOf c.after c.before)
 
 unfoldable pub degenerate : Corner → Bool
 unfolding lt normalOf
@@ -97,4 +97,4 @@ unfolding verticesWrong cornersWrong pointAmong
 pointOnOf uAxis normal corners =
     settled
     (first (check 16 (verticesWrong uAxis normal corners) ∷ check 20 (cornersWrong corners) ∷ []))
-    (pointAmong (placeAt uAxis 0) (cross_of (placeAt normal 0) (placeAt uAxis 0)) (triples corners))
+    (pointAmong (placeAt uAxis 0) (crossOf (placeAt normal 0) (placeAt uAxis 0)) (triples corners))

@@ -19,8 +19,8 @@ chart-requires c κs = search rules
 put-requires : tie.Need-put-requires
 put-requires c κs = search rules
 
-same_length : tie.Need-same-length
-same_length c = search rules
+same-length : tie.Need-same-length
+same-length c = search rules
 
 same-length-2 : tie.Need-same-length-2
 same-length-2 c = search rules
@@ -34,4 +34,4 @@ returns-2 c =
 
 pub facepoint-chart-spec : {M : Type 1} → statement M
 facepoint-chart-spec =
-    tie.close (tie.spec returns chart-requires put-requires same_length same-length-2 returns-2)
+    tie.close (tie.spec returns chart-requires put-requires same-length same-length-2 returns-2)

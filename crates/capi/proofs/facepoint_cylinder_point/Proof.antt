@@ -15,8 +15,8 @@ of-middle-requires c κs = search rules
 put-requires : tie.Need-put-requires
 put-requires c κs = search rules
 
-same_length : tie.Need-same-length
-same_length c = search rules
+same-length : tie.Need-same-length
+same-length c = search rules
 
 returns : tie.Need-returns
 returns c =
@@ -25,4 +25,4 @@ returns c =
     c.before.before.put.ensures ∙ ap (λ (n : Numbers). returnedOf n a.result.now) (made.of-middle.ensures ∙ made.before.cylinder-point.ensures.0)
 
 pub facepoint-cylinder-point-spec : {M : Type 1} → statement M
-facepoint-cylinder-point-spec = tie.close (tie.spec cylinder-point-requires of-middle-requires put-requires same_length returns)
+facepoint-cylinder-point-spec = tie.close (tie.spec cylinder-point-requires of-middle-requires put-requires same-length returns)

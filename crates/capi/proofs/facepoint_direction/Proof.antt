@@ -15,8 +15,8 @@ of-direction-requires c κs = search rules
 put-requires : tie.Need-put-requires
 put-requires c κs = search rules
 
-same_length : tie.Need-same-length
-same_length c = search rules
+same-length : tie.Need-same-length
+same-length c = search rules
 
 returns : tie.Need-returns
 returns c =
@@ -25,4 +25,4 @@ returns c =
     c.before.before.put.ensures ∙ ap (λ (n : Numbers). returnedOf n a.result.now) (made.of-direction.ensures ∙ made.before.edge-direction.ensures.0)
 
 pub facepoint-direction-spec : {M : Type 1} → statement M
-facepoint-direction-spec = tie.close (tie.spec edge-direction-requires of-direction-requires put-requires same_length returns)
+facepoint-direction-spec = tie.close (tie.spec edge-direction-requires of-direction-requires put-requires same-length returns)

@@ -13,8 +13,8 @@ image-pick-requires c κs = search rules
 put-requires : tie.Need-put-requires
 put-requires c κs = search rules
 
-same_length : tie.Need-same-length
-same_length c = search rules
+same-length : tie.Need-same-length
+same-length c = search rules
 
 returns : tie.Need-returns
 unfolding imagePickReturned
@@ -24,4 +24,4 @@ returns c =
     c.before.before.put.ensures ∙ ap (λ (n : Numbers). returnedOf n a.result.now) call.image-pick.ensures.0
 
 pub facepoint-image-pick-spec : {M : Type 1} → statement M
-facepoint-image-pick-spec = tie.close (tie.spec image-pick-requires put-requires same_length returns)
+facepoint-image-pick-spec = tie.close (tie.spec image-pick-requires put-requires same-length returns)

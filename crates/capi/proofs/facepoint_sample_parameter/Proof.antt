@@ -15,8 +15,8 @@ of-parameter-requires c κs = search rules
 put-requires : tie.Need-put-requires
 put-requires c κs = search rules
 
-same_length : tie.Need-same-length
-same_length c = search rules
+same-length : tie.Need-same-length
+same-length c = search rules
 
 returns : tie.Need-returns
 returns c =
@@ -25,4 +25,4 @@ returns c =
     c.before.before.put.ensures ∙ ap (λ (n : Numbers). returnedOf n a.result.now) (made.of-parameter.ensures ∙ made.before.sample-parameter.ensures.0)
 
 pub facepoint-sample-parameter-spec : {M : Type 1} → statement M
-facepoint-sample-parameter-spec = tie.close (tie.spec sample-parameter-requires of-parameter-requires put-requires same_length returns)
+facepoint-sample-parameter-spec = tie.close (tie.spec sample-parameter-requires of-parameter-requires put-requires same-length returns)

@@ -15,8 +15,8 @@ of-position-requires c κs = search rules
 put-requires : tie.Need-put-requires
 put-requires c κs = search rules
 
-same_length : tie.Need-same-length
-same_length c = search rules
+same-length : tie.Need-same-length
+same-length c = search rules
 
 returns : tie.Need-returns
 returns c =
@@ -25,4 +25,4 @@ returns c =
     c.before.before.put.ensures ∙ ap (λ (n : Numbers). returnedOf n a.result.now) (made.of-position.ensures ∙ made.before.spherical-triangle-of.ensures.0)
 
 pub facepoint-spherical-triangle-spec : {M : Type 1} → statement M
-facepoint-spherical-triangle-spec = tie.close (tie.spec spherical-triangle-of-requires of-position-requires put-requires same_length returns)
+facepoint-spherical-triangle-spec = tie.close (tie.spec spherical-triangle-of-requires of-position-requires put-requires same-length returns)

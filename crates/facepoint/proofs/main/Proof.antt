@@ -27,8 +27,8 @@ answer-to-requires c κs = search rules
 print-line-requires : tie.Need-print-line-requires
 print-line-requires c κs = search rules
 
-enum_told : tie.Need-enum-told
-enum_told c = search rules
+enum-told : tie.Need-enum-told
+enum-told c = search rules
 
 slice-aggregate-fail : tie.Need-slice-aggregate-fail
 slice-aggregate-fail c = search rules
@@ -53,7 +53,7 @@ main_spec =
     slice-aggregate-answer-to
     answer-to-requires
     print-line-requires
-    enum_told
+    enum-told
     slice-aggregate-fail
     fail-requires
     returns

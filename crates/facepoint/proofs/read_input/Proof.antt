@@ -18,8 +18,8 @@ decreases-loop fd buffer₀ n₀ buffer n = length buffer₀ - n
 loop-holds : tie.Need-loop-init invariant-loop decreases-loop
 loop-holds c = search rules
 
-sub_read : tie.Need-overflow-sub-read invariant-loop decreases-loop
-sub_read c = search rules
+sub-read : tie.Need-overflow-sub-read invariant-loop decreases-loop
+sub-read c = search rules
 
 part-read-start : tie.Need-slice-bounds-read-start invariant-loop decreases-loop
 part-read-start c = search rules
@@ -30,8 +30,8 @@ part-read-end c = search rules
 read-requires : tie.Need-read-requires invariant-loop decreases-loop
 read-requires c κs = search rules
 
-same_length : tie.Need-same-length invariant-loop decreases-loop
-same_length c = search rules
+same-length : tie.Need-same-length invariant-loop decreases-loop
+same-length c = search rules
 
 returns : tie.Need-returns invariant-loop decreases-loop
 unfolding Within
@@ -79,11 +79,11 @@ read-input-spec =
     invariant-loop
     decreases-loop
     loop-holds
-    sub_read
+    sub-read
     part-read-start
     part-read-end
     read-requires
-    same_length
+    same-length
     returns
     sub-count
     part-count-start

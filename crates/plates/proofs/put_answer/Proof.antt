@@ -21,8 +21,8 @@ enum-known-answer-2 c = search rules
 put-decimal-requires : tie.Need-put-decimal-requires
 put-decimal-requires c κs = search rules
 
-same_length : tie.Need-same-length
-same_length c = search rules
+same-length : tie.Need-same-length
+same-length c = search rules
 
 returns : tie.Need-returns
 returns c =
@@ -47,7 +47,7 @@ put-answer-spec =
     put-point-requires
     enum-known-answer-2
     put-decimal-requires
-    same_length
+    same-length
     returns
     same-length-2
     returns-2)

@@ -64,8 +64,8 @@ lend-requires c κs =
     let w : Within h.before.before.head_of.result = rw h.before.before.head_of.ensures (head-within _) in
     rw h.head.given.1 at w
 
-enum_told : tie.Need-enum-told
-enum_told c = search rules
+enum-told : tie.Need-enum-told
+enum-told c = search rules
 
 enum-told-2 : tie.Need-enum-told-2
 enum-told-2 c = search rules
@@ -98,7 +98,7 @@ run-plate-spec =
     array-share-prefix-front
     slice-aggregate-lend
     lend-requires
-    enum_told
+    enum-told
     enum-told-2
     returns-3
     returns-4

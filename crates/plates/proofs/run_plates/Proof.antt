@@ -17,8 +17,8 @@ loop-holds c = search rules
 run-plate-requires : tie.Need-run-plate-requires invariant-loop decreases-loop
 run-plate-requires c κs = search rules
 
-enum_told : tie.Need-enum-told invariant-loop decreases-loop
-enum_told c = search rules
+enum-told : tie.Need-enum-told invariant-loop decreases-loop
+enum-told c = search rules
 
 enum-told-2 : tie.Need-enum-told-2 invariant-loop decreases-loop
 enum-told-2 c = search rules
@@ -32,8 +32,8 @@ write-all-requires c κs = search rules
 enum-told-3 : tie.Need-enum-told-3 invariant-loop decreases-loop
 enum-told-3 c = search rules
 
-add_read : tie.Need-overflow-add-read invariant-loop decreases-loop
-add_read c = search rules
+add-read : tie.Need-overflow-add-read invariant-loop decreases-loop
+add-read c = search rules
 
 loop-less : tie.Need-loop-smaller invariant-loop decreases-loop
 loop-less c = search rules
@@ -58,12 +58,12 @@ run-plates-spec =
     decreases-loop
     loop-holds
     run-plate-requires
-    enum_told
+    enum-told
     enum-told-2
     slice-aggregate-write-all
     write-all-requires
     enum-told-3
-    add_read
+    add-read
     loop-less
     loop-again
     returns

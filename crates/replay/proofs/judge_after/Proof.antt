@@ -6,8 +6,8 @@ use borrow.Author.Rules.{rules}
 use Rattle.replay.proofs.judge_after.Statement.{statement}
 use Rattle.replay.proofs.judge_after.Tie as tie
 
-enum_told : tie.Need-enum-told
-enum_told c = search rules
+enum-told : tie.Need-enum-told
+enum-told c = search rules
 
 returns : tie.Need-returns
 returns c = search rules
@@ -145,7 +145,7 @@ pub judge-after-spec : {M : Type 1} → statement M
 judge-after-spec =
     tie.close
     (tie.spec
-    enum_told
+    enum-told
     returns
     shared-slice-read-sample-parameter
     shared-slice-read-sample-parameter-2

@@ -30,8 +30,8 @@ lend-requires c κs =
     let w : Within h.before.before.head_of.result = rw h.before.before.head_of.ensures (head-within _) in
     rw h.head.given.1 at w
 
-enum_told : tie.Need-enum-told
-enum_told c = search rules
+enum-told : tie.Need-enum-told
+enum-told c = search rules
 
 enum-told-2 : tie.Need-enum-told-2
 enum-told-2 c = search rules
@@ -56,7 +56,7 @@ run-record-spec =
     head-of-requires
     enum-known-head
     lend-requires
-    enum_told
+    enum-told
     enum-told-2
     returns
     returns-2

@@ -40,11 +40,11 @@ number-requires-2 c κs = search rules
 add-wrong-2 : tie.Need-overflow-add-wrong-2 invariant-loop decreases-loop
 add-wrong-2 c = search rules
 
-enum_told : tie.Need-enum-told invariant-loop decreases-loop
-enum_told c = search rules
+enum-told : tie.Need-enum-told invariant-loop decreases-loop
+enum-told c = search rules
 
-add_read : tie.Need-overflow-add-read invariant-loop decreases-loop
-add_read c = search rules
+add-read : tie.Need-overflow-add-read invariant-loop decreases-loop
+add-read c = search rules
 
 add-wrong-3 : tie.Need-overflow-add-wrong-3 invariant-loop decreases-loop
 add-wrong-3 c = search rules
@@ -85,8 +85,8 @@ run-records-spec =
     enum-known-outcome-2
     number-requires-2
     add-wrong-2
-    enum_told
-    add_read
+    enum-told
+    add-read
     add-wrong-3
     enum-told-2
     add-read-2

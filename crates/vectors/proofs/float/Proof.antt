@@ -4,7 +4,7 @@ use mathlib.Core.Bool.{Bool, not}
 use lib.Dec.{T}
 use lib.Ieee.{div, of_bits}
 use borrow.Author.Rules.{rules}
-use Rattle.leaves.proofs.Patterns.{nan_pattern}
+use Rattle.leaves.proofs.Patterns.{nan-pattern}
 use Rattle.vectors.proofs.float.Statement.{statement}
 use Rattle.vectors.proofs.float.Tie as tie
 
@@ -16,7 +16,7 @@ float-from-bits-result c = subst (λ (b : Bool). T (not b)) (sym c.if1.false ∙
 
 returns : tie.Need-returns
 unfolding div of_bits
-returns c = sym (nan_pattern _ (sym c.before.is-nan-pattern.ensures ∙ c.if1.true))
+returns c = sym (nan-pattern _ (sym c.before.is-nan-pattern.ensures ∙ c.if1.true))
 
 returns-2 : tie.Need-returns-2
 returns-2 c = search rules

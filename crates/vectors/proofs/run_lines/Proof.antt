@@ -19,8 +19,8 @@ loop-holds c = search rules
 run-line-requires : tie.Need-run-line-requires invariant-loop decreases-loop
 run-line-requires c κs = search rules
 
-enum_told : tie.Need-enum-told invariant-loop decreases-loop
-enum_told c = search rules
+enum-told : tie.Need-enum-told invariant-loop decreases-loop
+enum-told c = search rules
 
 enum-told-2 : tie.Need-enum-told-2 invariant-loop decreases-loop
 enum-told-2 c = search rules
@@ -31,8 +31,8 @@ add-wrong c = search rules
 enum-told-3 : tie.Need-enum-told-3 invariant-loop decreases-loop
 enum-told-3 c = search rules
 
-add_read : tie.Need-overflow-add-read invariant-loop decreases-loop
-add_read c = search rules
+add-read : tie.Need-overflow-add-read invariant-loop decreases-loop
+add-read c = search rules
 
 loop-less : tie.Need-loop-smaller invariant-loop decreases-loop
 loop-less c = search rules
@@ -54,11 +54,11 @@ run-lines-spec =
     decreases-loop
     loop-holds
     run-line-requires
-    enum_told
+    enum-told
     enum-told-2
     add-wrong
     enum-told-3
-    add_read
+    add-read
     loop-less
     loop-again
     returns

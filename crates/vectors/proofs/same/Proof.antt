@@ -9,7 +9,7 @@ use lib.Ieee.Compare.{differs_from_itself}
 use denote.Floats.{passes}
 use borrow.Author.Rules.{rules}
 use borrow.Author.Tests.{eq-eqb, eqb-true}
-use Rattle.leaves.proofs.Patterns.{nan_pattern, pattern-of-nan, equals_itself}
+use Rattle.leaves.proofs.Patterns.{nan-pattern, pattern-of-nan, equals-itself}
 use Rattle.vectors.proofs.same.Statement.{statement}
 use Rattle.vectors.proofs.same.Tie as tie
 
@@ -17,20 +17,20 @@ is-nan-pattern-requires : tie.Need-is-nan-pattern-requires
 is-nan-pattern-requires c κs = search rules
 
 float-to-bits-result : tie.Need-float-to-bits-result
-float-to-bits-result c = equals_itself _ c.if1.false
+float-to-bits-result c = equals-itself _ c.if1.false
 
 returns : tie.Need-returns
 returns c =
     let x = differs_from_itself _ (passes _ c.before.if1.true) in
     let r = c.is-nan-pattern.ensures in
-    (λ yes. x ∙ sym (nan_pattern _ (sym r ∙ yes)), λ e. r ∙ pattern-of-nan _ (sym e ∙ x))
+    (λ yes. x ∙ sym (nan-pattern _ (sym r ∙ yes)), λ e. r ∙ pattern-of-nan _ (sym e ∙ x))
 
 returns-2 : tie.Need-returns-2
 returns-2 c =
     let s = c.before in
     let x = s.args.x in
     let bits = s.args.bits in
-    let no_nan = equals_itself x c.if1.false in (
+    let no_nan = equals-itself x c.if1.false in (
       λ yes. sym (of_bits-to_bits binary64 x (subst T (sym s.well-formed.0.1) tt)) ∙ ap (of_bits binary64) (eqb-true (to_bits binary64 x) bits yes),
       λ e. eq-eqb (to_bits binary64 x) bits (ap (to_bits binary64) e ∙ to_bits-of_bits binary64 bits s.ranges.bits.fits (subst (λ (y : Float). T (not (is_nan y))) e no_nan)),
     )

@@ -10,14 +10,14 @@ use borrow.Author.Rules.{rules}
 use lib.Ieee.{nan}
 use lib.ListN.{length, drop, drop_of_length-le}
 use lib.Seq.{drop-cons}
-use Rattle.answers.specs.Lists.{any_of}
+use Rattle.answers.specs.Lists.{anyOf}
 use Rattle.answers.specs.Limits.{beyond}
-use Rattle.answers.proofs.AnyOf.{any_found, any-passed, any_none}
+use Rattle.answers.proofs.AnyOf.{any-found, any-passed, any-none}
 use Rattle.answers.proofs.numbers.any_number_beyond.Statement.{statement}
 use Rattle.answers.proofs.numbers.any_number_beyond.Tie as tie
 
 abbrev invariant-loop : tie.invariant-loop
-invariant-loop limit list k₀ k = any_of (beyond limit) (drop k list) ≡ any_of (beyond limit) list
+invariant-loop limit list k₀ k = anyOf (beyond limit) (drop k list) ≡ anyOf (beyond limit) list
 
 abbrev decreases-loop : tie.decreases-loop
 decreases-loop limit list k₀ k = length list - k
@@ -38,7 +38,7 @@ returns : tie.Need-returns invariant-loop decreases-loop
 returns c =
     let l = c.before.before.before.before in
     let a = l.before.before.args in
-    sym (any_found (beyond a.limit) (drop-cons a.list.now l.loop.k nan (omega arith)) (sym c.before.is-beyond.ensures ∙ c.if1.true)) ∙ l.loop.invariant
+    sym (any-found (beyond a.limit) (drop-cons a.list.now l.loop.k nan (omega arith)) (sym c.before.is-beyond.ensures ∙ c.if1.true)) ∙ l.loop.invariant
 
 add-k : tie.Need-overflow-add-k invariant-loop decreases-loop
 add-k c = search rules
@@ -56,7 +56,7 @@ returns-2 : tie.Need-returns-2 invariant-loop decreases-loop
 returns-2 c =
     let l = c.before in
     let a = l.before.before.args in
-    sym (any_none (beyond a.limit) (drop_of_length-le a.list.now c.loop-test.false)) ∙ l.loop.invariant
+    sym (any-none (beyond a.limit) (drop_of_length-le a.list.now c.loop-test.false)) ∙ l.loop.invariant
 
 pub any-number-beyond-spec : {M : Type 1} → statement M
 any-number-beyond-spec =

@@ -4,12 +4,12 @@ use native.Mathlib.Omega.{arith}
 use lib.ListN.{length-set}
 use borrow.Author.Rules.{rules}
 use Rattle.answers.specs.Answers.{paper}
-use Rattle.answers.proofs.Returning.{all-stored, five-stored, other_length, point-five, refused-five}
+use Rattle.answers.proofs.Returning.{all-stored, five-stored, other-length, point-five, refused-five}
 use Rattle.answers.proofs.result.put.Statement.{statement}
 use Rattle.answers.proofs.result.put.Tie as tie
 
 returns : tie.Need-returns
-returns c = let a = c.before.args in other_length (paper a.answer) a.result.now c.if1.true
+returns c = let a = c.before.args in other-length (paper a.answer) a.result.now c.if1.true
 
 enum-known-answer : tie.Need-enum-known-answer
 enum-known-answer c = search rules
@@ -50,8 +50,8 @@ slice-write-result-9 c = simp length-set (omega arith)
 slice-write-result-10 : tie.Need-slice-write-result-10
 slice-write-result-10 c = simp length-set (omega arith)
 
-same_length : tie.Need-same-length
-same_length c = search rules
+same-length : tie.Need-same-length
+same-length c = search rules
 
 returns-2 : tie.Need-returns-2
 returns-2 c =
@@ -86,7 +86,7 @@ put_spec =
     slice-write-result-8
     slice-write-result-9
     slice-write-result-10
-    same_length
+    same-length
     returns-2
     same-length-2
     returns-3)

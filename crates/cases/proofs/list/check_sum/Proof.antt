@@ -4,7 +4,7 @@
 use Rattle.std.proofs.Common.{◌≡◌, ◌%◌, ◌^◌, ◌≤◌, length, drop, arith, rules}
 use Rattle.leaves.specs.Constants.{plusZero}
 use Rattle.cases.specs.Places.{weighted}
-use Rattle.cases.proofs.Places.{bitSum, none-sum, none-total, sum_more, total-more}
+use Rattle.cases.proofs.Places.{bitSum, none-sum, none-total, sum-more, total-more}
 use Rattle.cases.proofs.list.check_sum.Statement.{statement}
 use Rattle.cases.proofs.list.check_sum.Tie as tie
 
@@ -46,7 +46,7 @@ loop-again c =
     let s = c.before.before.before.before.before in
     let inv = s.before.loop.invariant in
     let more = s.loop-test.true in
-    let sum = sum_more (2 ^ 64) s.before.before.before.args.list.now _ s.before.loop.k _ _ _ more inv.0 inv.1 c.before.before.bits_of.ensures c.before.wrapping-add-u642.ensures in
+    let sum = sum-more (2 ^ 64) s.before.before.before.args.list.now _ s.before.loop.k _ _ _ more inv.0 inv.1 c.before.before.bits-of.ensures c.before.wrapping-add-u642.ensures in
     (omega arith, sum, total-more (2 ^ 64) _ plusZero _ _ _ _ _ _ more inv.0 inv.2 inv.1 c.before.before.before.before.wrapping-add-u64.ensures sum c.wrapping-add-u643.ensures)
 
 returns : tie.Need-returns invariant-loop decreases-loop

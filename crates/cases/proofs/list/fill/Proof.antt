@@ -1,7 +1,7 @@
 -- `cases::list::fill` puts x in every place. The invariant: the first k places hold x, and the others what they held.
 -- The measure is the number of places that are left.
 use Rattle.std.proofs.Common.{◌≡◌, ◌-◌, ◌<◌, ◌≤◌, ◌++◌, length, drop, replicate, ◌∙◌, arith, length-set, rules}
-use Rattle.cases.proofs.Places.{fill_more, fill_end}
+use Rattle.cases.proofs.Places.{fill-more, fill-end}
 use Rattle.cases.proofs.list.fill.Statement.{statement}
 use Rattle.cases.proofs.list.fill.Tie as tie
 
@@ -30,13 +30,13 @@ loop-again : tie.Need-loop-preserved invariant-loop decreases-loop
 loop-again c =
     let inv = c.before.loop.invariant in
     let l : c.before.loop.k < length c.before.before.args.list.now = omega arith in
-    (omega arith, rw inv.1 (fill_more _ _ _ l), simp length-set (omega arith))
+    (omega arith, rw inv.1 (fill-more _ _ _ l), simp length-set (omega arith))
 
-same_length : tie.Need-same-length invariant-loop decreases-loop
-same_length c = search rules
+same-length : tie.Need-same-length invariant-loop decreases-loop
+same-length c = search rules
 
 returns : tie.Need-returns invariant-loop decreases-loop
-returns c = let e : c.before.loop.k ≡ length c.before.before.args.list.now = omega arith in c.before.loop.invariant.1 ∙ fill_end _ _ _ e
+returns c = let e : c.before.loop.k ≡ length c.before.before.args.list.now = omega arith in c.before.loop.invariant.1 ∙ fill-end _ _ _ e
 
 pub fill_spec : {M : Type 1} → statement M
 fill_spec =
@@ -50,5 +50,5 @@ fill_spec =
     add-k
     loop-less
     loop-again
-    same_length
+    same-length
     returns)

@@ -2,7 +2,7 @@
 use Rattle.std.proofs.Common.{Bool, not, T, sym, ◌∙◌, subst, rules, le-ltb, lt-ltb}
 use lib.Ieee.{binary64, div, of_bits}
 use lib.Ieee.Bits.{nan_bits_above}
-use Rattle.leaves.proofs.Patterns.{nan_pattern}
+use Rattle.leaves.proofs.Patterns.{nan-pattern}
 use Rattle.cases.proofs.list.float.Statement.{statement}
 use Rattle.cases.proofs.list.float.Tie as tie
 
@@ -11,7 +11,7 @@ float-from-bits-result c = subst (λ (b : Bool). T (not b)) (sym (nan_bits_above
 
 returns : tie.Need-returns
 unfolding div of_bits
-returns c = sym (nan_pattern c.before.args.bits (nan_bits_above binary64 _ ∙ lt-ltb _ _ c.if1.true))
+returns c = sym (nan-pattern c.before.args.bits (nan_bits_above binary64 _ ∙ lt-ltb _ _ c.if1.true))
 
 returns-2 : tie.Need-returns-2
 returns-2 c = search rules

@@ -4,7 +4,7 @@ use lib.Ieee.{is_nan}
 use lib.Ieee.Compare.{differs_from_itself}
 use denote.Floats.{passes, is_true}
 use Rattle.cases.specs.Places.{shown}
-use Rattle.leaves.proofs.Patterns.{equals_itself}
+use Rattle.leaves.proofs.Patterns.{equals-itself}
 use Rattle.cases.proofs.list.is_shown.Statement.{statement}
 use Rattle.cases.proofs.list.is_shown.Tie as tie
 
@@ -19,7 +19,7 @@ returns-2 : tie.Need-returns-2
 unfolding shown
 returns-2 c =
     let x = c.before.before.args.x in
-    rw (c.bits_of.ensures, is_true (not (is_nan x)) (equals_itself x c.before.if1.false))
+    rw (c.bits-of.ensures, is_true (not (is_nan x)) (equals-itself x c.before.if1.false))
 
 pub is-shown-spec : {M : Type 1} → statement M
 is-shown-spec = tie.close (tie.spec bits-of-requires returns returns-2)

@@ -45,8 +45,8 @@ loop-again c =
     let l : j.loop.k < length s.args.list.now = omega arith in
     (omega arith, rw inv.1 (load-more j.loop.k s.args.numbers.now s.args.list.now _ l (rw c.before.u64-at.ensures at c.float.ensures)), simp length-set (omega arith))
 
-same_length : tie.Need-same-length invariant-loop decreases-loop
-same_length c = search rules
+same-length : tie.Need-same-length invariant-loop decreases-loop
+same-length c = search rules
 
 returns : tie.Need-returns invariant-loop decreases-loop
 returns c = let e : c.before.loop.k ≡ length c.before.before.before.before.args.list.now = omega arith in c.before.loop.invariant.1 ∙ load-end _ _ _ e
@@ -66,5 +66,5 @@ load_spec =
     add-k
     loop-less
     loop-again
-    same_length
+    same-length
     returns)

@@ -2,7 +2,7 @@
 -- call in lists by size.
 use mathlib.Core.Path.{sym, ◌∙◌}
 use native.Mathlib.Omega.{arith}
-use Rattle.chart.proofs.Calling.{call-unread, call-no-room, call_passes}
+use Rattle.chart.proofs.Calling.{call-unread, call-no-room, call-passes}
 use borrow.Author.Rules.{rules}
 use Rattle.chart.proofs.call.chart.Statement.{statement}
 use Rattle.chart.proofs.call.chart.Tie as tie
@@ -28,15 +28,15 @@ cast-count c = search rules
 chart-small-requires : tie.Need-chart-small-requires
 chart-small-requires c κs =
     let passes = sym c.before.before.before.before.before.before.refusal.ensures ∙ c.before.before.before.before.before.if1.false in
-    (call_passes c.before.before.before.before.before.before.before.before.before.args.s.now c.before.before.before.before.before.before.before.before.before.args.phase c.before.before.before.before.before.before.before.before.before.args.points.now passes (omega (arith, c.before.before.before.before.point-numbers.ensures, c.before.before.before.if2.false)), c.before.before.before.before.point-numbers.ensures, c.before.before.byte_at.ensures, c.before.if3.true)
+    (call-passes c.before.before.before.before.before.before.before.before.before.args.s.now c.before.before.before.before.before.before.before.before.before.args.phase c.before.before.before.before.before.before.before.before.before.args.points.now passes (omega (arith, c.before.before.before.before.point-numbers.ensures, c.before.before.before.if2.false)), c.before.before.before.before.point-numbers.ensures, c.before.before.byte_at.ensures, c.before.if3.true)
 
 chart-large-requires : tie.Need-chart-large-requires
 chart-large-requires c κs =
     let passes = sym c.before.before.before.before.before.before.refusal.ensures ∙ c.before.before.before.before.before.if1.false in
-    (call_passes c.before.before.before.before.before.before.before.before.before.args.s.now c.before.before.before.before.before.before.before.before.before.args.phase c.before.before.before.before.before.before.before.before.before.args.points.now passes (omega (arith, c.before.before.before.before.point-numbers.ensures, c.before.before.before.if2.false)), c.before.before.before.before.point-numbers.ensures, c.before.before.byte_at.ensures)
+    (call-passes c.before.before.before.before.before.before.before.before.before.args.s.now c.before.before.before.before.before.before.before.before.before.args.phase c.before.before.before.before.before.before.before.before.before.args.points.now passes (omega (arith, c.before.before.before.before.point-numbers.ensures, c.before.before.before.if2.false)), c.before.before.before.before.point-numbers.ensures, c.before.before.byte_at.ensures)
 
-same_length : tie.Need-same-length
-same_length c = search rules
+same-length : tie.Need-same-length
+same-length c = search rules
 
 returns-3 : tie.Need-returns-3
 returns-3 c = search rules
@@ -59,7 +59,7 @@ chart-spec =
     cast-count
     chart-small-requires
     chart-large-requires
-    same_length
+    same-length
     returns-3
     same-length-2
     returns-4)

@@ -5,18 +5,18 @@ use native.Mathlib.Omega.{arith}
 use lib.Seq.{length-take-le}
 use Rattle.sheet.proofs.Checked.{checked}
 use Rattle.frame.proofs.SheetFrame.{points-most}
-use Rattle.chart.proofs.Calling.{reads_of}
+use Rattle.chart.proofs.Calling.{reads-of}
 use borrow.Author.Rules.{rules}
 use Rattle.chart.proofs.call.chart_large.Statement.{statement}
 use Rattle.chart.proofs.call.chart_large.Tie as tie
 
 -- the points of a sheet that passes 8 have room
 points-of : (c : tie.Start) → c.args.n ≤ 4352
-points-of c = omega (arith, c.requires.1, points-most c.args.s.now (reads_of c.args.s.now c.args.phase c.requires.0.passes))
+points-of c = omega (arith, c.requires.1, points-most c.args.s.now (reads-of c.args.s.now c.args.phase c.requires.0.passes))
 
 -- and so have the rings' ends
 rings-of : (c : tie.Start) → c.args.count ≤ 16
-rings-of c = omega (arith, c.requires.2, (checked c.args.s.now (reads_of c.args.s.now c.args.phase c.requires.0.passes)).layout.ringsMost)
+rings-of c = omega (arith, c.requires.2, (checked c.args.s.now (reads-of c.args.s.now c.args.phase c.requires.0.passes)).layout.ringsMost)
 
 array-borrow-prefix-moved : tie.Need-array-borrow-prefix-moved
 array-borrow-prefix-moved c = points-of c.before.before
@@ -33,8 +33,8 @@ slice-aggregate-chart-over-2 c = sym (length-take-le _ _ (rings-of c.before.befo
 chart-over-requires : tie.Need-chart-over-requires
 chart-over-requires c κs = (c.before.before.before.before.before.requires.0, length-take-le _ _ (points-of c.before.before.before.before.before) ∙ c.before.before.before.before.before.requires.1, length-take-le _ _ (rings-of c.before.before.before.before.before) ∙ c.before.before.before.before.before.requires.2)
 
-same_length : tie.Need-same-length
-same_length c = search rules
+same-length : tie.Need-same-length
+same-length c = search rules
 
 returns : tie.Need-returns
 returns c = search rules
@@ -48,5 +48,5 @@ chart-large-spec =
     array-borrow-prefix-ends
     slice-aggregate-chart-over-2
     chart-over-requires
-    same_length
+    same-length
     returns)

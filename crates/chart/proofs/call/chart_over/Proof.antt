@@ -7,8 +7,8 @@ use Rattle.sheet.specs.Layout.{sheetOf}
 use Rattle.frame.specs.Seam.{fitting}
 use Rattle.frame.proofs.Counting.{ring-number}
 use Rattle.frame.proofs.LaidOut.{laid-points}
-use Rattle.chart.proofs.Calling.{reads_of, fits-of, call-refused, call-answered}
-use Rattle.chart.proofs.Finding.{told-refused, told_chosen}
+use Rattle.chart.proofs.Calling.{reads-of, fits-of, call-refused, call-answered}
+use Rattle.chart.proofs.Finding.{told-refused, told-chosen}
 use borrow.Author.Rules.{rules}
 use Rattle.chart.proofs.call.chart_over.Statement.{statement}
 use Rattle.chart.proofs.call.chart_over.Tie as tie
@@ -28,8 +28,8 @@ write-requires c κs = search rules
 answer-requires : tie.Need-answer-requires
 answer-requires c κs = search rules
 
-same_length : tie.Need-same-length
-same_length c = search rules
+same-length : tie.Need-same-length
+same-length c = search rules
 
 same-length-2 : tie.Need-same-length-2
 same-length-2 c = search rules
@@ -39,7 +39,7 @@ fit : (c : tie.After-find) → fitting (sheetOf c.before.before.before.before.be
 fit c =
     let a = c.before.before.before.before.before.before.before in
     let s = a.args.s.now in
-    fits-of s (length a.args.moved.now) (length a.args.ends.now) (reads_of s a.args.phase a.requires.0.passes) a.requires.1 (a.requires.2 ∙ sym (ring-number s))
+    fits-of s (length a.args.moved.now) (length a.args.ends.now) (reads-of s a.args.phase a.requires.0.passes) a.requires.1 (a.requires.2 ∙ sym (ring-number s))
 
 returns : tie.Need-returns
 returns c =
@@ -61,7 +61,7 @@ returns-2 c =
     let a = c.before.before.before.before.before.before.before.before.before.before.before.before.before.before.before.before.before.before.before.before in
     let z = sheetOf a.args.s.now in
     let f = c.before.before.before.before.before.before.before.before.before.before.before.before.before in
-    let t = told_chosen _ z a.args.phase _ _ (fit f) (sym f.find.ensures.0 ∙ c.before.before.before.before.before.before.before.f.given.1) in
+    let t = told-chosen _ z a.args.phase _ _ (fit f) (sym f.find.ensures.0 ∙ c.before.before.before.before.before.before.before.f.given.1) in
     (call-answered a.requires.0 t.0 c.answer.result (f.find.ensures.1 ∙ laid-points z a.args.phase a.args.moved.now (fit f)) c.before.before.before.write.ensures t.1 t.2 c.answer.ensures.0, c.answer.ensures.1)
 
 pub chart-over-spec : {M : Type 1} → statement M
@@ -73,7 +73,7 @@ chart-over-spec =
     enum-known-f
     write-requires
     answer-requires
-    same_length
+    same-length
     same-length-2
     returns
     same-length-3

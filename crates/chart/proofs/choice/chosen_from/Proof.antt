@@ -33,8 +33,8 @@ slice-aggregate-choose-2 c = search rules
 choose-requires : tie.Need-choose-requires
 choose-requires c κs = search rules
 
-same_length : tie.Need-same-length
-same_length c = search rules
+same-length : tie.Need-same-length
+same-length c = search rules
 
 returns : tie.Need-returns
 returns c =
@@ -55,5 +55,5 @@ chosen-from-spec =
     slice-aggregate-choose
     slice-aggregate-choose-2
     choose-requires
-    same_length
+    same-length
     returns)

@@ -18,8 +18,8 @@ chosen-from-requires c κs =
     let same = normal-length a.args.f a.args.normal.now a.requires.0 a.requires.1 changed.ensures in
     (normal-ascends a.args.f a.args.normal.now a.requires.0 a.requires.1 changed.ensures, omega (arith, same, a.requires.2), omega (arith, same, a.requires.3), a.requires.4)
 
-same_length : tie.Need-same-length
-same_length c = search rules
+same-length : tie.Need-same-length
+same-length c = search rules
 
 same-length-2 : tie.Need-same-length-2
 same-length-2 c = search rules
@@ -36,6 +36,6 @@ chosen-over-spec =
     (tie.spec
     normalise-requires
     chosen-from-requires
-    same_length
+    same-length
     same-length-2
     returns)

@@ -61,8 +61,8 @@ chosen-requires c κs =
     let size = fitting-is z (length x.points.now) (length x.ends.now) (fit f) in
     (rw (points-are f, ends-are f) (packed _), omega (arith, kept.1.1.0, size.most), omega (arith, kept.1.1.1.0, size.ends-are, ring-number x.s.now, c.before.before.before.before.before.before.before.before.before.before.before.before.before.before.before.shared-slice-known.given 7))
 
-same_length : tie.Need-same-length
-same_length c = search rules
+same-length : tie.Need-same-length
+same-length c = search rules
 
 same-length-2 : tie.Need-same-length-2
 same-length-2 c = search rules
@@ -120,7 +120,7 @@ find_spec =
     enum-known-f
     byte-at-requires
     chosen-requires
-    same_length
+    same-length
     same-length-2
     returns
     same-length-3

@@ -3,8 +3,8 @@ use borrow.Author.Rules.{rules}
 use Rattle.clearance.proofs.nearest.key_at.Statement.{statement}
 use Rattle.clearance.proofs.nearest.key_at.Tie as tie
 
-mul_at : tie.Need-overflow-mul-at
-mul_at c = search rules
+mul-at : tie.Need-overflow-mul-at
+mul-at c = search rules
 
 mul-a-u : tie.Need-overflow-mul-a-u
 mul-a-u c = search rules
@@ -49,7 +49,7 @@ pub key-at-spec : {M : Type 1} → statement M
 key-at-spec =
     tie.close
     (tie.spec
-    mul_at
+    mul-at
     mul-a-u
     shared-slice-read-a-u
     add-a-v

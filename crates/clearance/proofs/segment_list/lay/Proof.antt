@@ -8,10 +8,10 @@ use borrow.Author.Rules.{rules}
 use lib.ListN.{length, take, drop}
 use Rattle.sheet.specs.Content.{point, pairs}
 use Rattle.points.specs.Segments.{segment, segments}
-use Rattle.points.proofs.InPlace.{Written, none_written}
-use Rattle.points.proofs.Walk.{pointAt, walk_step, left, left-start, left_end}
+use Rattle.points.proofs.InPlace.{Written, none-written}
+use Rattle.points.proofs.Walk.{pointAt, walk-step, left, left-start, left-end}
 use Rattle.clearance.specs.Clearance.{laid}
-use Rattle.clearance.proofs.Laying.{numbersOf, laid_more, laid-all, unlaid, none-laid, part_room, put_all, put_is}
+use Rattle.clearance.proofs.Laying.{numbersOf, laid-more, laid-all, unlaid, none-laid, part-room, put-all, put-is}
 use Rattle.clearance.proofs.segment_list.lay.Statement.{statement}
 use Rattle.clearance.proofs.segment_list.lay.Tie as tie
 
@@ -38,7 +38,7 @@ loop-holds : tie.Need-loop-init invariant-loop decreases-loop
 loop-holds c =
     let x = c.before.before.before.before.before.before.args in
     let f = laid x.periodic x.period in
-    (omega arith, omega arith, rw (left-start x.ring.now (omega arith)) (none_written _ _))
+    (omega arith, omega arith, rw (left-start x.ring.now (omega arith)) (none-written _ _))
 
 mul-b-u : tie.Need-overflow-mul-b-u invariant-loop decreases-loop
 mul-b-u c = omega arith
@@ -103,7 +103,7 @@ loop-again c =
     let f = laid x.periodic x.period in (
       omega arith,
       omega arith,
-      laid_more f l.loop.k (segment a b) (left x.ring.now b (l.loop.k + 1)) _ l.loop.invariant.2 (walk_step x.ring.now (pointAt x.ring.now 0 ∷ []) a l.loop.k (omega arith)) (omega arith) (omega arith) (put_is x.periodic x.period a b _ _ (c.before.before.put.ensures ∙ put_all _ _ (part_room _ l.loop.k (omega arith) (omega arith))) c.before.before.before.before.moved-end.ensures),
+      laid-more f l.loop.k (segment a b) (left x.ring.now b (l.loop.k + 1)) _ l.loop.invariant.2 (walk-step x.ring.now (pointAt x.ring.now 0 ∷ []) a l.loop.k (omega arith)) (omega arith) (omega arith) (put-is x.periodic x.period a b _ _ (c.before.before.put.ensures ∙ put-all _ _ (part-room _ l.loop.k (omega arith) (omega arith))) c.before.before.before.before.moved-end.ensures),
     )
 
 mul-from-2 : tie.Need-overflow-mul-from-2 invariant-loop decreases-loop
@@ -143,10 +143,10 @@ closed c =
     let x = l.before.before.before.before.before.before.before.args in
     let a = point l.loop.a-u l.loop.a-v in
     let b = pointAt x.ring.now 0 in
-    laid_more (laid x.periodic x.period) l.loop.k (segment a b) [] _ l.loop.invariant.2 (left_end x.ring.now a l.loop.k (omega arith)) (omega arith) (omega arith) (put_is x.periodic x.period a b _ _ (c.put2.ensures ∙ put_all _ _ (part_room _ l.loop.k (omega arith) (omega arith))) c.before.before.moved-end2.ensures)
+    laid-more (laid x.periodic x.period) l.loop.k (segment a b) [] _ l.loop.invariant.2 (left-end x.ring.now a l.loop.k (omega arith)) (omega arith) (omega arith) (put-is x.periodic x.period a b _ _ (c.put2.ensures ∙ put-all _ _ (part-room _ l.loop.k (omega arith) (omega arith))) c.before.before.moved-end2.ensures)
 
-same_length : tie.Need-same-length invariant-loop decreases-loop
-same_length c = (closed c.before.before).same
+same-length : tie.Need-same-length invariant-loop decreases-loop
+same-length c = (closed c.before.before).same
 
 returns-3 : tie.Need-returns-3 invariant-loop decreases-loop
 returns-3 c =
@@ -193,5 +193,5 @@ lay-spec =
     part-put-start-2
     part-put-end-2
     put-requires-2
-    same_length
+    same-length
     returns-3)

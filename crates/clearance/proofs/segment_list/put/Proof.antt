@@ -36,8 +36,8 @@ slice-write-places-3 c = simp length-set (omega arith)
 slice-write-places-4 : tie.Need-slice-write-places-4
 slice-write-places-4 c = simp length-set (omega arith)
 
-same_length : tie.Need-same-length
-same_length c = simp length-set
+same-length : tie.Need-same-length
+same-length c = simp length-set
 
 returns-2 : tie.Need-returns-2
 unfolding flat endsOf
@@ -52,5 +52,5 @@ put_spec =
     slice-write-places-2
     slice-write-places-3
     slice-write-places-4
-    same_length
+    same-length
     returns-2)

@@ -10,7 +10,7 @@ use lib.IntN.{ℤ, pos, nat_abs, ◌+ℤ◌}
 use lib.Ieee.{Float}
 use lib.ListN.{length, get_or, drop, length-take, length-drop, length-replicate, get_or-replicate}
 use Rattle.sheet.specs.Content.{Point, pairs}
-use Rattle.points.proofs.Flat.{length_pairs}
+use Rattle.points.proofs.Flat.{length-pairs}
 use Rattle.inside.specs.Lines.{byColumns}
 use Rattle.frame.proofs.Rings.{between, foldRings, fold-rings-end}
 use Rattle.coverage.specs.Coverage.{windingOf}
@@ -78,7 +78,7 @@ loop-less c = omega arith
 -- a ring has at most half as many points as the list has numbers
 few-points : (period : Float) (n from end : ℕ) (xs : List Float) → length xs ≤ 4352 → nat_abs (windingOf period (byColumns n) (pairs (between from end xs))) ≤ 2176
 few-points period n from end xs h =
-    omega (arith, winding-small period (byColumns n) (pairs (between from end xs)), length_pairs (between from end xs), length-take (end - from) (drop from xs), length-drop from xs)
+    omega (arith, winding-small period (byColumns n) (pairs (between from end xs)), length-pairs (between from end xs), length-take (end - from) (drop from xs), length-drop from xs)
 
 loop-again : tie.Need-loop-preserved invariant-loop decreases-loop
 loop-again c =
@@ -95,8 +95,8 @@ loop-again c =
       λ n h. rw (sums.is n h) (sym (fold-cut (wind a.period n) a.ends.now a.points.now (get_or l.loop.cells n (pos 0)) l.loop.from l.loop.k start.result end.result more start.ensures end.ensures) ∙ l.loop.invariant.3 n h),
     )
 
-same_length : tie.Need-same-length invariant-loop decreases-loop
-same_length c = c.before.loop.invariant.1 ∙ sym (rw c.before.before.before.before.requires.2 (length-replicate 961 (pos 0)))
+same-length : tie.Need-same-length invariant-loop decreases-loop
+same-length c = c.before.loop.invariant.1 ∙ sym (rw c.before.before.before.before.requires.2 (length-replicate 961 (pos 0)))
 
 returns : tie.Need-returns invariant-loop decreases-loop
 returns c =
@@ -126,5 +126,5 @@ add-rings-spec =
     add-k
     loop-less
     loop-again
-    same_length
+    same-length
     returns)

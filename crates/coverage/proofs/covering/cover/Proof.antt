@@ -62,8 +62,8 @@ cover-grid-requires c κs =
     let m = c.before.before.before.place2 in
     (omega (arith, front-size x.points.now 4352 n.result n.ensures, n.ensures.1), omega (arith, front-size x.ends.now 256 m.result m.ensures, m.ensures.1), length-take-le 961 x.covered.now (omega arith))
 
-same_length : tie.Need-same-length
-same_length c = search rules
+same-length : tie.Need-same-length
+same-length c = search rules
 
 returns-2 : tie.Need-returns-2
 returns-2 c =
@@ -84,5 +84,5 @@ cover-spec =
     slice-relend-prefix-cover-grid
     slice-aggregate-cover-grid-3
     cover-grid-requires
-    same_length
+    same-length
     returns-2)

@@ -8,7 +8,7 @@ use Rattle.inside.specs.Lines.{byColumns, inRows}
 use Rattle.inside.proofs.Cells.{all-grid}
 use Rattle.frame.specs.Parts.{ringsFrom}
 use Rattle.coverage.specs.Coverage.{covered}
-use Rattle.coverage.proofs.Parity.{same_point, covered-inside}
+use Rattle.coverage.proofs.Parity.{same-point, covered-inside}
 use borrow.Author.Rules.{rules}
 use Rattle.coverage.proofs.covering.cover_by_inside.Statement.{statement}
 use Rattle.coverage.proofs.covering.cover_by_inside.Tie as tie
@@ -25,8 +25,8 @@ slice-aggregate-mark-flips c = search rules
 mark-flips-requires : tie.Need-mark-flips-requires
 mark-flips-requires c κs = search rules
 
-same_length : tie.Need-same-length
-same_length c = search rules
+same-length : tie.Need-same-length
+same-length c = search rules
 
 returns : tie.Need-returns
 unfolding byColumns
@@ -37,7 +37,7 @@ returns c =
     let marks = c.before.before.mark-flips.ensures in
     all-grid false _ (λ i j. covered f x.args.sense rings (gridPoint i j)) (record {
       count = marks.count;
-      is = λ k h. marks.is k h ∙ rw (c.before.before.before.before.before.before.flip-rings.ensures.is (inRows k) (omega arith), same_point k h) (covered-inside f x.args.sense rings (byColumns k) x.requires.0);
+      is = λ k h. marks.is k h ∙ rw (c.before.before.before.before.before.before.flip-rings.ensures.is (inRows k) (omega arith), same-point k h) (covered-inside f x.args.sense rings (byColumns k) x.requires.0);
     })
 
 pub cover-by-inside-spec : {M : Type 1} → statement M
@@ -48,5 +48,5 @@ cover-by-inside-spec =
     flip-rings-requires
     slice-aggregate-mark-flips
     mark-flips-requires
-    same_length
+    same-length
     returns)

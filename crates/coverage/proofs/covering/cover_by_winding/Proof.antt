@@ -23,8 +23,8 @@ slice-aggregate-mark-windings c = search rules
 mark-windings-requires : tie.Need-mark-windings-requires
 mark-windings-requires c κs = search rules
 
-same_length : tie.Need-same-length
-same_length c = search rules
+same-length : tie.Need-same-length
+same-length c = search rules
 
 returns : tie.Need-returns
 unfolding byColumns
@@ -46,5 +46,5 @@ cover-by-winding-spec =
     add-rings-requires
     slice-aggregate-mark-windings
     mark-windings-requires
-    same_length
+    same-length
     returns)

@@ -9,8 +9,8 @@ cover-by-winding-requires c κs = search rules
 cover-by-inside-requires : tie.Need-cover-by-inside-requires
 cover-by-inside-requires c κs = search rules
 
-same_length : tie.Need-same-length
-same_length c = search rules
+same-length : tie.Need-same-length
+same-length c = search rules
 
 returns : tie.Need-returns
 returns c = search rules
@@ -24,4 +24,4 @@ returns-2 c = search rules
 pub cover-grid-spec : {M : Type 1} → statement M
 cover-grid-spec =
     tie.close
-    (tie.spec cover-by-winding-requires cover-by-inside-requires same_length returns same-length-2 returns-2)
+    (tie.spec cover-by-winding-requires cover-by-inside-requires same-length returns same-length-2 returns-2)

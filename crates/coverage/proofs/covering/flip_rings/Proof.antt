@@ -76,8 +76,8 @@ loop-again c =
       λ n h. rw (flipped.is n h) (sym (fold-cut (flip n) x.ends.now x.points.now (get_or l.loop.cells n false) l.loop.from l.loop.k start.result end.result more start.ensures end.ensures) ∙ l.loop.invariant.1 n h),
     )
 
-same_length : tie.Need-same-length invariant-loop decreases-loop
-same_length c = c.before.loop.invariant.0 ∙ sym (rw c.before.before.before.before.before.requires (length-replicate 961 false))
+same-length : tie.Need-same-length invariant-loop decreases-loop
+same-length c = c.before.loop.invariant.0 ∙ sym (rw c.before.before.before.before.before.requires (length-replicate 961 false))
 
 returns : tie.Need-returns invariant-loop decreases-loop
 returns c =
@@ -107,5 +107,5 @@ flip-rings-spec =
     add-k
     loop-less
     loop-again
-    same_length
+    same-length
     returns)

@@ -14,13 +14,13 @@ use Rattle.coverage.specs.Coverage.{oddℤ}
 use Rattle.coverage.proofs.marks.is_odd.Statement.{statement}
 use Rattle.coverage.proofs.marks.is_odd.Tie as tie
 
-negative_fits : (n : ℕ) → n < 2 ^ 63 → SFits w64 (neg_ℤ (pos n))
-negative_fits zero h = record { sfits = h }
-negative_fits (suc n) h = record { sfits = omega arith }
+negative-fits : (n : ℕ) → n < 2 ^ 63 → SFits w64 (neg_ℤ (pos n))
+negative-fits zero h = record { sfits = h }
+negative-fits (suc n) h = record { sfits = omega arith }
 
 half-fits : (n : ℤ) → SFits w64 n → SFits w64 (quot_z n (pos 2))
 half-fits (pos n) h = record { sfits = omega arith }
-half-fits (negsuc n) h = negative_fits (suc n / 2) (omega arith)
+half-fits (negsuc n) h = negative-fits (suc n / 2) (omega arith)
 
 odd-positive : (r : ℕ) → r < 2 → not (eqb r 0) ≡ eqb r 1
 odd-positive zero h = refl

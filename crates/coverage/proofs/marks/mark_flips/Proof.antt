@@ -11,7 +11,7 @@ use lib.ListN.{get_or}
 use mir.Syntax.{w64}
 use mir.Val.{to_z}
 use Rattle.inside.specs.Lines.{inRows}
-use Rattle.inside.proofs.Cells.{Changed, none-changed, cell-changed, all_changed}
+use Rattle.inside.proofs.Cells.{Changed, none-changed, cell-changed, all-changed}
 use Rattle.coverage.specs.Coverage.{coveredBy}
 use Rattle.coverage.proofs.marks.mark_flips.Statement.{statement}
 use Rattle.coverage.proofs.marks.mark_flips.Tie as tie
@@ -59,14 +59,14 @@ loop-again c =
       cell-changed false 961 (marked x.band x.sense x.cells.now) x.covered.now l.loop.k l.loop.covered l.loop.invariant.1 (omega arith) _ (c.before.is-covered.ensures ∙ ap (coveredBy x.band x.sense) is),
     )
 
-same_length : tie.Need-same-length invariant-loop decreases-loop
-same_length c = c.before.loop.invariant.1.count ∙ sym c.before.before.before.before.requires.1
+same-length : tie.Need-same-length invariant-loop decreases-loop
+same-length c = c.before.loop.invariant.1.count ∙ sym c.before.before.before.before.requires.1
 
 returns : tie.Need-returns invariant-loop decreases-loop
 returns c =
     let l = c.before in
     let x = l.before.before.before.args in
-    all_changed false 961 (marked x.band x.sense x.cells.now) x.covered.now l.loop.k l.loop.covered l.loop.invariant.1 (omega arith)
+    all-changed false 961 (marked x.band x.sense x.cells.now) x.covered.now l.loop.k l.loop.covered l.loop.invariant.1 (omega arith)
 
 pub mark-flips-spec : {M : Type 1} → statement M
 mark-flips-spec =
@@ -82,5 +82,5 @@ mark-flips-spec =
     add-k
     loop-less
     loop-again
-    same_length
+    same-length
     returns)

@@ -9,7 +9,7 @@ use lib.IntN.{ℤ, pos}
 use lib.ListN.{get_or}
 use mir.Syntax.{w64}
 use mir.ValLaws.{to_z-of_z}
-use Rattle.inside.proofs.Cells.{Changed, none-changed, cell-changed, all_changed}
+use Rattle.inside.proofs.Cells.{Changed, none-changed, cell-changed, all-changed}
 use Rattle.coverage.specs.Coverage.{coveredBy}
 use Rattle.coverage.proofs.marks.mark_windings.Statement.{statement}
 use Rattle.coverage.proofs.marks.mark_windings.Tie as tie
@@ -53,14 +53,14 @@ loop-again c =
     let n = get_or x.sums.now l.k (pos 0) in
     cell-changed false 961 (marked x.band x.sense x.sums.now) x.covered.now l.k l.covered l.invariant (omega arith) _ (c.is-covered.ensures ∙ ap (coveredBy x.band x.sense) (to_z-of_z w64 n (record { sfits = c.before.is-covered-arg.given })))
 
-same_length : tie.Need-same-length invariant-loop decreases-loop
-same_length c = c.before.loop.invariant.count ∙ sym c.before.before.before.requires.1
+same-length : tie.Need-same-length invariant-loop decreases-loop
+same-length c = c.before.loop.invariant.count ∙ sym c.before.before.before.requires.1
 
 returns : tie.Need-returns invariant-loop decreases-loop
 returns c =
     let x = c.before.before.before.args in
     let l = c.before.loop in
-    all_changed false 961 (marked x.band x.sense x.sums.now) x.covered.now l.k l.covered l.invariant (omega arith)
+    all-changed false 961 (marked x.band x.sense x.sums.now) x.covered.now l.k l.covered l.invariant (omega arith)
 
 pub mark-windings-spec : {M : Type 1} → statement M
 mark-windings-spec =
@@ -76,5 +76,5 @@ mark-windings-spec =
     add-k
     loop-less
     loop-again
-    same_length
+    same-length
     returns)

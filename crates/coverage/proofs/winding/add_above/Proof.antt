@@ -12,8 +12,8 @@ use mir.Syntax.{w64}
 use mir.Val.{to_z, of_z}
 use mir.ValLaws.{to_z-of_z}
 use Rattle.points.specs.Grid.{part}
-use Rattle.inside.proofs.Cells.{Changed, none-changed, passed, cell-changed, all_changed}
-use Rattle.coverage.proofs.Windings.{Added, added, add_none}
+use Rattle.inside.proofs.Cells.{Changed, none-changed, passed, cell-changed, all-changed}
+use Rattle.coverage.proofs.Windings.{Added, added, add-none}
 use Rattle.coverage.proofs.winding.add_above.Statement.{statement}
 use Rattle.coverage.proofs.winding.add_above.Tie as tie
 
@@ -78,11 +78,11 @@ loop-again c =
     let same : by ≡ x.by = to_z-of_z w64 x.by l.before.ranges.by in
     ⊎_elim
     (λ w. rw w.2 (cell-changed (pos 0) 31 change x.column.now l.loop.m l.loop.column l.loop.invariant (omega arith) _ ((sum l (omega arith)).is ∙ ap (λ (n : ℤ). cell l +ℤ n) (sym (rw (← c.before.part.ensures, w.0.taken) same)))))
-    (λ w. rw w.1 (passed (pos 0) 31 change x.column.now l.loop.m l.loop.column l.loop.invariant (l.loop.m + 1) (omega arith) (λ k h g. let e : k ≡ l.loop.m = omega arith in rw (e, ← c.before.part.ensures, w.0.left) (add_none _))))
+    (λ w. rw w.1 (passed (pos 0) 31 change x.column.now l.loop.m l.loop.column l.loop.invariant (l.loop.m + 1) (omega arith) (λ k h g. let e : k ≡ l.loop.m = omega arith in rw (e, ← c.before.part.ensures, w.0.left) (add-none _))))
     c.if1.branch
 
-same_length : tie.Need-same-length invariant-loop decreases-loop
-same_length c = c.before.loop.invariant.count ∙ sym c.before.before.requires.0
+same-length : tie.Need-same-length invariant-loop decreases-loop
+same-length c = c.before.loop.invariant.count ∙ sym c.before.before.requires.0
 
 returns : tie.Need-returns invariant-loop decreases-loop
 returns c =
@@ -90,7 +90,7 @@ returns c =
     let x = l.before.args in
     let by = to_z w64 (of_z w64 x.by) in
     let same : by ≡ x.by = to_z-of_z w64 x.by l.before.ranges.by in
-    rw (← same) (all_changed (pos 0) 31 (plus x.threshold by) x.column.now l.loop.m l.loop.column l.loop.invariant (omega arith))
+    rw (← same) (all-changed (pos 0) 31 (plus x.threshold by) x.column.now l.loop.m l.loop.column l.loop.invariant (omega arith))
 
 pub add-above-spec : {M : Type 1} → statement M
 add-above-spec =
@@ -109,5 +109,5 @@ add-above-spec =
     add-m
     loop-less
     loop-again
-    same_length
+    same-length
     returns)

@@ -10,7 +10,7 @@ use mir.Syntax.{w64}
 use mir.Val.{to_z, of_z}
 use mir.ValLaws.{to_z-of_z}
 use Rattle.coverage.specs.Coverage.{step}
-use Rattle.coverage.proofs.Windings.{add_none, one_at_most}
+use Rattle.coverage.proofs.Windings.{add-none, one-at-most}
 use borrow.Author.Rules.{rules}
 use Rattle.coverage.proofs.winding.add_column.Statement.{statement}
 use Rattle.coverage.proofs.winding.add_column.Tie as tie
@@ -25,11 +25,11 @@ add-above-requires : tie.Need-add-above-requires
 add-above-requires c κs =
     let s = c.before.before.before.before in
     let r = c.before.direction in
-    let n : nat_abs r.result ≤ 1 = rw r.ensures (one_at_most true (lt s.args.a-u s.args.b-u)) in
+    let n : nat_abs r.result ≤ 1 = rw r.ensures (one-at-most true (lt s.args.a-u s.args.b-u)) in
     (s.requires.0, rw (to_z-of_z w64 r.result (record { sfits = r.type-inv })) n, s.requires.1)
 
-same_length : tie.Need-same-length
-same_length c = search rules
+same-length : tie.Need-same-length
+same-length c = search rules
 
 returns : tie.Need-returns
 unfolding step
@@ -48,7 +48,7 @@ returns-2 c =
     let s = c.before.before in
     record {
       count = s.requires.0;
-      is = λ m h. rw (← c.before.just-one-above.ensures, c.if1.false) (sym (add_none (get_or s.args.column.now m (pos 0))));
+      is = λ m h. rw (← c.before.just-one-above.ensures, c.if1.false) (sym (add-none (get_or s.args.column.now m (pos 0))));
     }
 
 pub add-column-spec : {M : Type 1} → statement M
@@ -58,6 +58,6 @@ add-column-spec =
     just-one-above-requires
     direction-requires
     add-above-requires
-    same_length
+    same-length
     returns
     returns-2)

@@ -10,10 +10,10 @@ use lib.IntN.{pos, nat_abs, ◌+ℤ◌}
 use lib.ListN.{length, get_or}
 use Rattle.sheet.specs.Content.{point, pairs}
 use Rattle.points.specs.Segments.{segment}
-use Rattle.points.proofs.Walk.{pointAt, walk_step, left, left_end}
+use Rattle.points.proofs.Walk.{pointAt, walk-step, left, left-end}
 use Rattle.inside.specs.Lines.{byColumns}
-use Rattle.coverage.specs.Coverage.{step_of, windingOf}
-use Rattle.coverage.proofs.Windings.{windStep, winding-none, winding-start, step_small, sum-small}
+use Rattle.coverage.specs.Coverage.{stepOf, windingOf}
+use Rattle.coverage.proofs.Windings.{windStep, winding-none, winding-start, step-small, sum-small}
 use Rattle.coverage.proofs.winding.add_ring.Statement.{statement}
 use Rattle.coverage.proofs.winding.add_ring.Tie as tie
 
@@ -91,15 +91,15 @@ loop-again c =
       omega arith,
       omega arith,
       sums.count,
-      λ n h. rw (sums.is n h) (omega (arith, l.loop.invariant.3 n h, sum-small (get_or l.loop.cells n (pos 0)) (step_of x.period (byColumns n) (segment a (pointAt ring k))), step_small x.period (byColumns n) (segment a (pointAt ring k)))),
-      λ n h. rw (sums.is n h) (sym (ap (foldl (windStep x.period (byColumns n)) (get_or l.loop.cells n (pos 0))) (walk_step ring (pointAt ring 0 ∷ []) a k (omega arith))) ∙ l.loop.invariant.4 n h),
+      λ n h. rw (sums.is n h) (omega (arith, l.loop.invariant.3 n h, sum-small (get_or l.loop.cells n (pos 0)) (stepOf x.period (byColumns n) (segment a (pointAt ring k))), step-small x.period (byColumns n) (segment a (pointAt ring k)))),
+      λ n h. rw (sums.is n h) (sym (ap (foldl (windStep x.period (byColumns n)) (get_or l.loop.cells n (pos 0))) (walk-step ring (pointAt ring 0 ∷ []) a k (omega arith))) ∙ l.loop.invariant.4 n h),
     )
 
 add-segment-requires-2 : tie.Need-add-segment-requires-2 invariant-loop decreases-loop
 add-segment-requires-2 c κs = let l = c.before.before in (l.loop.invariant.2, room l)
 
-same_length : tie.Need-same-length invariant-loop decreases-loop
-same_length c =
+same-length : tie.Need-same-length invariant-loop decreases-loop
+same-length c =
     let l = c.before.before.before.before in
     c.before.add-segment2.ensures.count ∙ sym l.before.before.before.before.before.requires.0
 
@@ -111,7 +111,7 @@ returns-2 c =
     let sums = c.before.add-segment2.ensures in
     record {
       count = sums.count;
-      is = λ n h. sums.is n h ∙ sym (ap (foldl (windStep x.period (byColumns n)) (get_or l.loop.cells n (pos 0))) (left_end ring (point l.loop.a-u l.loop.a-v) l.loop.k (omega arith))) ∙ l.loop.invariant.4 n h;
+      is = λ n h. sums.is n h ∙ sym (ap (foldl (windStep x.period (byColumns n)) (get_or l.loop.cells n (pos 0))) (left-end ring (point l.loop.a-u l.loop.a-v) l.loop.k (omega arith))) ∙ l.loop.invariant.4 n h;
     }
 
 pub add-ring-spec : {M : Type 1} → statement M
@@ -136,5 +136,5 @@ add-ring-spec =
     loop-less
     loop-again
     add-segment-requires-2
-    same_length
+    same-length
     returns-2)

@@ -9,16 +9,16 @@ use lib.Ieee.{Float}
 use lib.ListN.{length-take, length-drop}
 use Rattle.sheet.specs.Content.{point}
 use Rattle.points.specs.Segments.{gained, segment}
-use Rattle.coverage.specs.Coverage.{step_of}
+use Rattle.coverage.specs.Coverage.{stepOf}
 use Rattle.coverage.specs.Lines.{Turning}
 use Rattle.inside.specs.Lines.{byColumns}
-use Rattle.inside.proofs.Cells.{Changed, none-changed, in-line, line-changed, all_changed}
+use Rattle.inside.proofs.Cells.{Changed, none-changed, in-line, line-changed, all-changed}
 use Rattle.coverage.proofs.Columns.{step-in-column}
 use Rattle.coverage.proofs.winding.add_segment.Statement.{statement}
 use Rattle.coverage.proofs.winding.add_segment.Tie as tie
 
 abbrev plus : Float → Float → Float → Float → Float → ℕ → ℤ → ℤ
-plus period a-u a-v b-u b-v k n = n +ℤ step_of period (byColumns k) (segment (point a-u a-v) (point b-u b-v))
+plus period a-u a-v b-u b-v k n = n +ℤ stepOf period (byColumns k) (segment (point a-u a-v) (point b-u b-v))
 
 abbrev invariant-loop : tie.invariant-loop
 invariant-loop period a-u a-v b-u b-v cells₀ far mid turn₀ i₀ cells turn i = (i ≤ 31) × Changed (pos 0) 961 (plus period a-u a-v b-u b-v) cells₀ (31 * i) cells × Turning period mid (i + 1) turn.until turn.by
@@ -34,8 +34,8 @@ loop-holds c =
     let x = c.before.args in
     (omega arith, none-changed (pos 0) 961 (plus x.period x.a-u x.a-v x.b-u x.b-v) x.cells.now c.before.requires.0, λ m h k. absurd (omega arith))
 
-add_turned : tie.Need-overflow-add-turned invariant-loop decreases-loop
-add_turned c = omega arith
+add-turned : tie.Need-overflow-add-turned invariant-loop decreases-loop
+add-turned c = omega arith
 
 turned-requires : tie.Need-turned-requires invariant-loop decreases-loop
 turned-requires c κs = let l = c.before in (omega arith, l.loop.invariant.2)
@@ -103,14 +103,14 @@ loop-again c =
       λ m h k. r.ensures.1 m (omega arith) k,
     )
 
-same_length : tie.Need-same-length invariant-loop decreases-loop
-same_length c = c.before.loop.invariant.1.count ∙ sym c.before.before.before.requires.0
+same-length : tie.Need-same-length invariant-loop decreases-loop
+same-length c = c.before.loop.invariant.1.count ∙ sym c.before.before.before.requires.0
 
 returns : tie.Need-returns invariant-loop decreases-loop
 returns c =
     let l = c.before in
     let x = l.before.before.args in
-    all_changed (pos 0) 961 (plus x.period x.a-u x.a-v x.b-u x.b-v) x.cells.now (31 * l.loop.i) l.loop.cells l.loop.invariant.1 (omega arith)
+    all-changed (pos 0) 961 (plus x.period x.a-u x.a-v x.b-u x.b-v) x.cells.now (31 * l.loop.i) l.loop.cells l.loop.invariant.1 (omega arith)
 
 pub add-segment-spec : {M : Type 1} → statement M
 add-segment-spec =
@@ -120,7 +120,7 @@ add-segment-spec =
     decreases-loop
     turns-requires
     loop-holds
-    add_turned
+    add-turned
     turned-requires
     add-part
     part-requires
@@ -135,5 +135,5 @@ add-segment-spec =
     add-i
     loop-less
     loop-again
-    same_length
+    same-length
     returns)

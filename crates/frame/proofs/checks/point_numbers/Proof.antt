@@ -45,14 +45,14 @@ cast-total c = omega arith
 mul-total : tie.Need-overflow-mul-total invariant-loop decreases-loop
 mul-total c = omega arith
 
-add_total : tie.Need-overflow-add-total invariant-loop decreases-loop
-add_total c = omega arith
+add-total : tie.Need-overflow-add-total invariant-loop decreases-loop
+add-total c = omega arith
 
 block-size-requires : tie.Need-block-size-requires invariant-loop decreases-loop
 block-size-requires c κs = search rules
 
-add_at : tie.Need-overflow-add-at invariant-loop decreases-loop
-add_at c =
+add-at : tie.Need-overflow-add-at invariant-loop decreases-loop
+add-at c =
     let l = c.before.before.before in
     omega (arith, c.block_size.ensures, block-size-at l.before.before.before.before.before.args.s.now l.loop.at)
 
@@ -90,9 +90,9 @@ point-numbers-spec =
     byte-at-requires-3
     cast-total
     mul-total
-    add_total
+    add-total
     block-size-requires
-    add_at
+    add-at
     add-k
     loop-less
     loop-again

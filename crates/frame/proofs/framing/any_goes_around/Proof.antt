@@ -7,8 +7,8 @@ use Prim.Native.Nat.{◌-◌, ◌≤◌}
 use native.Mathlib.Omega.{arith}
 use lib.ListN.{length, get_or, drop}
 use borrow.Author.Rules.{rules}
-use Rattle.answers.specs.Lists.{any_of}
-use Rattle.answers.proofs.AnyOf.{any_found, any-passed, any_none}
+use Rattle.answers.specs.Lists.{anyOf}
+use Rattle.answers.proofs.AnyOf.{any-found, any-passed, any-none}
 use Rattle.points.specs.Bounds.{goesAround}
 use Rattle.frame.specs.Parts.{ringsFrom, Ascends}
 use Rattle.frame.proofs.Rings.{ascends-step, end-bound, rings-step, rings-end}
@@ -16,7 +16,7 @@ use Rattle.frame.proofs.framing.any_goes_around.Statement.{statement}
 use Rattle.frame.proofs.framing.any_goes_around.Tie as tie
 
 abbrev invariant-loop : tie.invariant-loop
-invariant-loop points ends from₀ k₀ from k = (k ≤ length ends) × Ascends from (drop k ends) (length points) × (any_of goesAround (ringsFrom from (drop k ends) points) ≡ any_of goesAround (ringsFrom 0 ends points))
+invariant-loop points ends from₀ k₀ from k = (k ≤ length ends) × Ascends from (drop k ends) (length points) × (anyOf goesAround (ringsFrom from (drop k ends) points) ≡ anyOf goesAround (ringsFrom 0 ends points))
 
 abbrev decreases-loop : tie.decreases-loop
 decreases-loop points ends from₀ k₀ from k = length ends - k
@@ -62,7 +62,7 @@ returns c =
     let l = c.before.before.before.before.before in
     let a = l.before.before.before.args in
     let step = rings-step a.ends.now l.loop.k c.before.before.before.before.loop-test.true l.loop.from a.points.now in
-    sym (any_found goesAround step (sym c.before.goes-around.ensures ∙ c.if1.true)) ∙ l.loop.invariant.2
+    sym (any-found goesAround step (sym c.before.goes-around.ensures ∙ c.if1.true)) ∙ l.loop.invariant.2
 
 add-k : tie.Need-overflow-add-k invariant-loop decreases-loop
 add-k c = omega arith
@@ -85,7 +85,7 @@ returns-2 : tie.Need-returns-2 invariant-loop decreases-loop
 returns-2 c =
     let l = c.before in
     let a = l.before.before.before.args in
-    sym (any_none goesAround (rings-end a.ends.now l.loop.k c.loop-test.false l.loop.from a.points.now)) ∙ l.loop.invariant.2
+    sym (any-none goesAround (rings-end a.ends.now l.loop.k c.loop-test.false l.loop.from a.points.now)) ∙ l.loop.invariant.2
 
 pub any-goes-around-spec : {M : Type 1} → statement M
 any-goes-around-spec =

@@ -7,8 +7,8 @@ use native.Mathlib.Omega.{arith}
 use lib.ListN.{length, get_or, drop}
 use borrow.Author.Rules.{rules}
 use Rattle.sheet.specs.Content.{Point}
-use Rattle.answers.specs.Lists.{any_of}
-use Rattle.answers.proofs.AnyOf.{any_found, any-passed, any_none}
+use Rattle.answers.specs.Lists.{anyOf}
+use Rattle.answers.proofs.AnyOf.{any-found, any-passed, any-none}
 use Rattle.points.specs.Joins.{ringOpen, every}
 use Rattle.frame.specs.Parts.{ringsFrom, Ascends}
 use Rattle.frame.specs.Framing.{anyOpen}
@@ -17,7 +17,7 @@ use Rattle.frame.proofs.framing.joins_open.Statement.{statement}
 use Rattle.frame.proofs.framing.joins_open.Tie as tie
 
 abbrev invariant-loop : tie.invariant-loop
-invariant-loop points ends periodic scale-u scale-v from₀ k₀ from k = (k ≤ length ends) × Ascends from (drop k ends) (length points) × (any_of (λ (r : List Point). ringOpen periodic scale-u scale-v (every 16 0 r) r) (ringsFrom from (drop k ends) points) ≡ any_of (λ (r : List Point). ringOpen periodic scale-u scale-v (every 16 0 r) r) (ringsFrom 0 ends points))
+invariant-loop points ends periodic scale-u scale-v from₀ k₀ from k = (k ≤ length ends) × Ascends from (drop k ends) (length points) × (anyOf (λ (r : List Point). ringOpen periodic scale-u scale-v (every 16 0 r) r) (ringsFrom from (drop k ends) points) ≡ anyOf (λ (r : List Point). ringOpen periodic scale-u scale-v (every 16 0 r) r) (ringsFrom 0 ends points))
 
 abbrev decreases-loop : tie.decreases-loop
 decreases-loop points ends periodic scale-u scale-v from₀ k₀ from k = length ends - k
@@ -67,7 +67,7 @@ returns c =
     let l = c.before.before.before.before.before in
     let a = l.before.before.before.args in
     let step = rings-step a.ends.now l.loop.k c.before.before.before.before.loop-test.true l.loop.from a.points.now in
-    sym (any_found (λ (r : List Point). ringOpen a.frame.periodic a.frame.scale_u a.frame.scale_v (every 16 0 r) r) step (sym c.before.is_open.ensures ∙ c.if1.true)) ∙ l.loop.invariant.2
+    sym (any-found (λ (r : List Point). ringOpen a.frame.periodic a.frame.scale_u a.frame.scale_v (every 16 0 r) r) step (sym c.before.is_open.ensures ∙ c.if1.true)) ∙ l.loop.invariant.2
 
 add-k : tie.Need-overflow-add-k invariant-loop decreases-loop
 add-k c = omega arith
@@ -91,7 +91,7 @@ unfolding anyOpen
 returns-2 c =
     let l = c.before in
     let a = l.before.before.before.args in
-    sym (any_none (λ (r : List Point). ringOpen a.frame.periodic a.frame.scale_u a.frame.scale_v (every 16 0 r) r) (rings-end a.ends.now l.loop.k c.loop-test.false l.loop.from a.points.now)) ∙ l.loop.invariant.2
+    sym (any-none (λ (r : List Point). ringOpen a.frame.periodic a.frame.scale_u a.frame.scale_v (every 16 0 r) r) (rings-end a.ends.now l.loop.k c.loop-test.false l.loop.from a.points.now)) ∙ l.loop.invariant.2
 
 pub joins-open-spec : {M : Type 1} → statement M
 joins-open-spec =

@@ -11,8 +11,8 @@ read-requires c κs = search rules
 unroll-requires : tie.Need-unroll-requires
 unroll-requires c κs = search rules
 
-same_length : tie.Need-same-length
-same_length c = search rules
+same-length : tie.Need-same-length
+same-length c = search rules
 
 returns : tie.Need-returns
 returns c =
@@ -20,4 +20,4 @@ returns c =
     ring-moved a.args.kind a.args.phase a.args.block.now a.args.points.now _ _ a.requires c.before.before.before.before.before.before.read.ensures c.before.before.unroll.ensures
 
 pub move-ring-spec : {M : Type 1} → statement M
-move-ring-spec = tie.close (tie.spec read-requires unroll-requires same_length returns)
+move-ring-spec = tie.close (tie.spec read-requires unroll-requires same-length returns)

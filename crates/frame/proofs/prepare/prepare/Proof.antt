@@ -8,7 +8,7 @@ use borrow.Author.Rules.{rules}
 use lib.ListN.{length, drop}
 use Rattle.sheet.proofs.Blocks.{block-size-at}
 use Rattle.frame.specs.Stages.{movedBlocks}
-use Rattle.frame.proofs.Preparing.{Prepared, none-prepared, part-within, ring-room, same_size, ring-prepared, all_moved, all-parted}
+use Rattle.frame.proofs.Preparing.{Prepared, none-prepared, part-within, ring-room, same-size, ring-prepared, all-moved, all-parted}
 use Rattle.frame.proofs.prepare.prepare.Statement.{statement}
 use Rattle.frame.proofs.prepare.prepare.Tie as tie
 
@@ -111,13 +111,13 @@ loop-again c =
     let byte = c.before.before.before.before.before.before.before.before.byte_at in
     let m = c.before.before.move-ring.ensures in (
       omega arith,
-      same_size p another size.result byte.result low.result high.result _ size.ensures byte.ensures low.ensures high.ensures m ∙ c.before.before.before.before.before.before.before.before.before.before.loop.invariant.1,
+      same-size p another size.result byte.result low.result high.result _ size.ensures byte.ensures low.ensures high.ensures m ∙ c.before.before.before.before.before.before.before.before.before.before.loop.invariant.1,
       omega (arith, size-most c.before.before.before.before.before.before.before),
       ring-prepared p another size.result byte.result low.result high.result _ size.ensures byte.ensures low.ensures high.ensures m,
     )
 
-same_length : tie.Need-same-length invariant-loop decreases-loop
-same_length c = omega arith
+same-length : tie.Need-same-length invariant-loop decreases-loop
+same-length c = omega arith
 
 same-length-2 : tie.Need-same-length-2 invariant-loop decreases-loop
 same-length-2 c = c.before.loop.invariant.3.count
@@ -126,7 +126,7 @@ returns : tie.Need-returns invariant-loop decreases-loop
 returns c =
     let p = c.before.loop.invariant.3 in
     let none : length c.before.before.before.before.before.args.ends.now ≤ c.before.loop.k = omega (arith, c.loop-test.false, p.count) in
-    (all_moved p none, all-parted p none)
+    (all-moved p none, all-parted p none)
 
 pub prepare-spec : {M : Type 1} → statement M
 prepare-spec =
@@ -156,6 +156,6 @@ prepare-spec =
     add-k
     loop-less
     loop-again
-    same_length
+    same-length
     same-length-2
     returns)

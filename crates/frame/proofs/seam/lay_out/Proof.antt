@@ -12,7 +12,7 @@ use Rattle.answers.specs.Outcome.{first}
 use Rattle.sheet.specs.Content.{Point, flat}
 use Rattle.sheet.specs.Layout.{kind, headSize, ringCount, sheetOf}
 use Rattle.sheet.proofs.Checked.{head-size-most}
-use Rattle.frame.specs.Frame.{frame_of, framed, periodicOf, bandOf}
+use Rattle.frame.specs.Frame.{frameOf, framed, periodicOf, bandOf}
 use Rattle.frame.specs.Framing.{movedRings, frame, joinRows, joinChecks}
 use Rattle.frame.specs.Parts.{endsFrom, ringsFrom, Packed}
 use Rattle.frame.specs.Seam.{fitting}
@@ -48,8 +48,8 @@ fitted c = fitting-is _ _ _ (fits c)
 count-is : (c : tie.Else1) → length c.before.before.before.before.before.args.ends.now ≡ ringCount c.before.before.before.before.before.args.s.now
 count-is c = (fitted c).ends-are ∙ ring-number c.before.before.before.before.before.args.s.now
 
-start_is : (c : tie.After-head-size) → c.head-size.result ≡ headSize (kind c.before.before.before.before.before.before.before.args.s.now)
-start_is c = c.head-size.ensures ∙ ap headSize c.before.byte_at.ensures
+start-is : (c : tie.After-head-size) → c.head-size.result ≡ headSize (kind c.before.before.before.before.before.before.before.args.s.now)
+start-is c = c.head-size.ensures ∙ ap headSize c.before.byte_at.ensures
 
 -- a ring count is a byte
 byte-most : (c : tie.After-shared-slice-known) → ringCount c.before.args.s.now ≤ 255
@@ -58,7 +58,7 @@ byte-most c = omega (arith, c.shared-slice-known.given 7)
 prepare-requires : tie.Need-prepare-requires
 prepare-requires c κs =
     let s = c.before.before.before.before.before.before.before.before.before.args.s.now in
-    rw (start_is c.before.before, count-is c.before.before.before.before, c.before.before.before.byte_at.ensures)
+    rw (start-is c.before.before, count-is c.before.before.before.before, c.before.before.before.byte_at.ensures)
     (head-size-most (kind s), byte-most c.before.before.before.before.before.before.before.before, (fitted c.before.before.before.before).points-are ∙ sym (numbers-count s c.before.before.before.before.before.before.before.before.before.args.phase))
 
 -- they hold the sheet's moved rings, and where they end
@@ -66,7 +66,7 @@ prepared : (c : tie.After-prepare) →
     let s = c.before.before.before.before.before.before.before.before.before.before.args.s.now in
     let rings = movedBlocks (kind s) c.before.before.before.before.before.before.before.before.before.before.args.phase (ringCount s) (drop (headSize (kind s)) s) in
     (c.prepare.new.1.1.1.1.0 ≡ flat (flatten rings)) × (c.prepare.new.1.1.1.1.1.0 ≡ endsFrom 0 rings)
-prepared c = rw (start_is c.before.before.before, count-is c.before.before.before.before.before, c.before.before.before.before.byte_at.ensures) at c.prepare.ensures
+prepared c = rw (start-is c.before.before.before, count-is c.before.before.before.before.before, c.before.before.before.before.byte_at.ensures) at c.prepare.ensures
 
 packed-in : (c : tie.After-prepare) → Packed c.prepare.new.1.1.1.1.1.0 c.prepare.new.1.1.1.1.0
 packed-in c = rw ((prepared c).0, (prepared c).1) (packed _)
@@ -80,9 +80,9 @@ frame-of-requires : tie.Need-frame-of-requires
 frame-of-requires c κs = packed-ascends (packed-in c.before.before.before.before.before.before)
 
 -- the frame is the sheet's
-frame_is : (c : tie.After-frame-of) → c.frame-of.result ≡ frame (sheetOf c.before.before.before.before.before.before.before.before.before.before.before.before.before.before.before.before.before.args.s.now) c.before.before.before.before.before.before.before.before.before.before.before.before.before.before.before.before.before.args.phase
-unfolding frame_of
-frame_is c =
+frame-is : (c : tie.After-frame-of) → c.frame-of.result ≡ frame (sheetOf c.before.before.before.before.before.before.before.before.before.before.before.before.before.before.before.before.before.args.s.now) c.before.before.before.before.before.before.before.before.before.before.before.before.before.before.before.before.before.args.phase
+unfolding frameOf
+frame-is c =
     let q = packed-in c.before.before.before.before.before.before.before in
     let back = rings-back c.before.before.before.before.before.before.before in
     let s = c.before.before.before.before.before.before.before.before.before.before.before.before.before.before.before.before.before.args.s.now in
@@ -98,16 +98,16 @@ joins-refusal-requires : tie.Need-joins-refusal-requires
 joins-refusal-requires c κs = packed-ascends (packed-in c.before.before.before.before.before.before.before.before.before)
 
 -- and so are its checks
-number_is : (c : tie.After-joins-refusal) → c.joins-refusal.result ≡ first (joinChecks (sheetOf c.before.before.before.before.before.before.before.before.before.before.before.before.before.before.before.before.before.before.before.before.args.s.now) c.before.before.before.before.before.before.before.before.before.before.before.before.before.before.before.before.before.before.before.before.args.phase)
-number_is c =
+number-is : (c : tie.After-joins-refusal) → c.joins-refusal.result ≡ first (joinChecks (sheetOf c.before.before.before.before.before.before.before.before.before.before.before.before.before.before.before.before.before.before.before.before.args.s.now) c.before.before.before.before.before.before.before.before.before.before.before.before.before.before.before.before.before.before.before.before.args.phase)
+number-is c =
     let s = c.before.before.before.before.before.before.before.before.before.before.before.before.before.before.before.before.before.before.before.before.args.s.now in
     let phase = c.before.before.before.before.before.before.before.before.before.before.before.before.before.before.before.before.before.before.before.before.args.phase in
     c.joins-refusal.ensures
-    ∙ ap₂ (λ (f : Frame) (rs : List (List Point)). first (joinRows f (openEvery f rs))) (frame_is c.before.before.before ∙ sheet-frame s phase) (rings-back c.before.before.before.before.before.before.before.before.before.before)
+    ∙ ap₂ (λ (f : Frame) (rs : List (List Point)). first (joinRows f (openEvery f rs))) (frame-is c.before.before.before ∙ sheet-frame s phase) (rings-back c.before.before.before.before.before.before.before.before.before.before)
     ∙ ap first (sym (sheet-rows s phase))
 
-same_length : tie.Need-same-length
-same_length c = search rules
+same-length : tie.Need-same-length
+same-length c = search rules
 
 same-length-2 : tie.Need-same-length-2
 same-length-2 c = search rules
@@ -123,7 +123,7 @@ returns-2 c =
     let z = sheetOf c.before.before.before.before.before.before.before.before.before.before.before.before.before.before.before.before.before.before.before.before.before.args.s.now in
     let phase = c.before.before.before.before.before.before.before.before.before.before.before.before.before.before.before.before.before.before.before.before.before.args.phase in
     let fit = fits c.before.before.before.before.before.before.before.before.before.before.before.before.before.before.before.before in (
-      ap Ready (frame_is c.before.before.before.before) ∙ framed-ready z phase fit (sym (number_is c.before) ∙ c.if2.true),
+      ap Ready (frame-is c.before.before.before.before) ∙ framed-ready z phase fit (sym (number-is c.before) ∙ c.if2.true),
       points-are c.before.before.before.before.before.before.before.before.before.before.before ∙ sym (laid-points z phase c.before.before.before.before.before.before.before.before.before.before.before.before.before.before.before.before.before.before.before.before.before.args.points.now fit),
       ends-are c.before.before.before.before.before.before.before.before.before.before.before ∙ sym (laid-ends z phase c.before.before.before.before.before.before.before.before.before.before.before.before.before.before.before.before.before.before.before.before.before.args.ends.now fit),
     )
@@ -139,7 +139,7 @@ returns-3 c =
     let z = sheetOf c.before.before.before.before.before.before.before.before.before.before.before.before.before.before.before.before.before.before.before.before.before.args.s.now in
     let phase = c.before.before.before.before.before.before.before.before.before.before.before.before.before.before.before.before.before.before.before.before.before.args.phase in
     let fit = fits c.before.before.before.before.before.before.before.before.before.before.before.before.before.before.before.before in (
-      framed-refused z phase c.before.joins-refusal.result fit (number_is c.before) c.if2.false,
+      framed-refused z phase c.before.joins-refusal.result fit (number-is c.before) c.if2.false,
       points-are c.before.before.before.before.before.before.before.before.before.before.before ∙ sym (laid-points z phase c.before.before.before.before.before.before.before.before.before.before.before.before.before.before.before.before.before.before.before.before.before.args.points.now fit),
       ends-are c.before.before.before.before.before.before.before.before.before.before.before ∙ sym (laid-ends z phase c.before.before.before.before.before.before.before.before.before.before.before.before.before.before.before.before.before.before.before.before.before.args.ends.now fit),
     )
@@ -155,7 +155,7 @@ lay-out-spec =
     prepare-requires
     frame-of-requires
     joins-refusal-requires
-    same_length
+    same-length
     same-length-2
     returns-2
     same-length-3

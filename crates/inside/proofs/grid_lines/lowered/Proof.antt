@@ -3,7 +3,7 @@
 use native.Mathlib.Omega.{arith}
 use borrow.Author.Rules.{rules}
 use Rattle.inside.specs.Lines.{NoneAfter}
-use Rattle.inside.proofs.Ascending.{none-lower, below_last, below_none}
+use Rattle.inside.proofs.Ascending.{none-lower, below-last, below-none}
 use Rattle.inside.proofs.grid_lines.lowered.Statement.{statement}
 use Rattle.inside.proofs.grid_lines.lowered.Tie as tie
 
@@ -22,7 +22,7 @@ part-requires c κs = search rules
 returns : tie.Need-returns invariant-loop decreases-loop
 returns c =
     let l = c.before.before.before in
-    below_last l.before.args.x l.loop.count l.loop.invariant (omega arith) (rw (← c.before.part.ensures) c.if1.true)
+    below-last l.before.args.x l.loop.count l.loop.invariant (omega arith) (rw (← c.before.part.ensures) c.if1.true)
 
 sub-count : tie.Need-overflow-sub-count invariant-loop decreases-loop
 sub-count c = omega arith
@@ -36,7 +36,7 @@ loop-again c =
     none-lower l.before.args.x l.loop.count l.loop.invariant (omega arith) (rw (← c.before.part.ensures) c.if1.false)
 
 returns-2 : tie.Need-returns-2 invariant-loop decreases-loop
-returns-2 c = below_none c.before.before.args.x c.before.loop.count c.before.loop.invariant (omega arith)
+returns-2 c = below-none c.before.before.args.x c.before.loop.count c.before.loop.invariant (omega arith)
 
 pub lowered-spec : {M : Type 1} → statement M
 lowered-spec =

@@ -3,7 +3,7 @@
 use Prim.Native.Nat.{◌-◌, ◌≤◌}
 use native.Mathlib.Omega.{arith}
 use borrow.Author.Rules.{rules}
-use Rattle.inside.proofs.Ascending.{none_above, none-at-end}
+use Rattle.inside.proofs.Ascending.{none-above, none-at-end}
 use Rattle.inside.proofs.grid_lines.raised.Statement.{statement}
 use Rattle.inside.proofs.grid_lines.raised.Tie as tie
 
@@ -34,7 +34,7 @@ loop-again c = omega arith
 returns : tie.Need-returns invariant-loop decreases-loop
 returns c =
     let l = c.before.before.before in
-    none_above l.before.args.x l.loop.count (omega arith) (rw (← c.before.part.ensures) c.if1.false)
+    none-above l.before.args.x l.loop.count (omega arith) (rw (← c.before.part.ensures) c.if1.false)
 
 returns-2 : tie.Need-returns-2 invariant-loop decreases-loop
 returns-2 c = none-at-end c.before.before.args.x c.before.loop.count (omega arith) (omega arith)

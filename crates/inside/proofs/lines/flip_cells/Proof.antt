@@ -8,7 +8,7 @@ use Prim.Native.Nat.{ℕ, ◌-◌, ◌/◌, ◌≤◌, ◌<◌}
 use native.Mathlib.Omega.{arith}
 use lib.ListN.{length, get_or}
 use Rattle.sheet.specs.Content.{point, pairs}
-use Rattle.points.proofs.Walk.{walk, walk_step, back_end}
+use Rattle.points.proofs.Walk.{walk, walk-step, back-end}
 use Rattle.inside.specs.Inside.{insideOf}
 use Rattle.inside.specs.Lines.{Below, byRows}
 use Rattle.inside.proofs.Flips.{unflipped}
@@ -110,11 +110,11 @@ loop-again c =
       omega arith,
       flipped.count,
       c.before.before.before.before.lines-below2.ensures,
-      λ n h. rw (flipped.is n h) (sym (ap (foldl (flipStep (byRows n)) (get_or l.loop.cells n false)) (walk_step ring [] (point l.loop.b-u l.loop.b-v) l.loop.k (omega arith))) ∙ l.loop.invariant.3 n h),
+      λ n h. rw (flipped.is n h) (sym (ap (foldl (flipStep (byRows n)) (get_or l.loop.cells n false)) (walk-step ring [] (point l.loop.b-u l.loop.b-v) l.loop.k (omega arith))) ∙ l.loop.invariant.3 n h),
     )
 
-same_length : tie.Need-same-length invariant-loop decreases-loop
-same_length c = let s = c.before.before.before.before.before.before.before.before in c.before.loop.invariant.1 ∙ sym s.requires
+same-length : tie.Need-same-length invariant-loop decreases-loop
+same-length c = let s = c.before.before.before.before.before.before.before.before in c.before.loop.invariant.1 ∙ sym s.requires
 
 returns-2 : tie.Need-returns-2 invariant-loop decreases-loop
 returns-2 c =
@@ -122,7 +122,7 @@ returns-2 c =
     let ring = l.before.before.before.before.before.before.before.args.ring.now in
     record {
       count = l.loop.invariant.1;
-      is = λ n h. sym (ap (foldl (flipStep (byRows n)) (get_or l.loop.cells n false)) (back_end ring (point l.loop.b-u l.loop.b-v) l.loop.k c.loop-test.false)) ∙ l.loop.invariant.3 n h;
+      is = λ n h. sym (ap (foldl (flipStep (byRows n)) (get_or l.loop.cells n false)) (back-end ring (point l.loop.b-u l.loop.b-v) l.loop.k c.loop-test.false)) ∙ l.loop.invariant.3 n h;
     }
 
 pub flip-cells-spec : {M : Type 1} → statement M
@@ -154,5 +154,5 @@ flip-cells-spec =
     add-k
     loop-less
     loop-again
-    same_length
+    same-length
     returns-2)

@@ -16,8 +16,8 @@ flip-rows-requires-2 c κs =
     let s = c.before.before.before in
     (parted-down s.args.a-v s.args.b-v s.args.below-a s.args.below-b s.requires.0 s.requires.1 (omega arith), s.requires.2)
 
-same_length : tie.Need-same-length
-same_length c = search rules
+same-length : tie.Need-same-length
+same-length c = search rules
 
 returns : tie.Need-returns
 returns c = search rules
@@ -31,4 +31,4 @@ returns-2 c = search rules
 pub flip-edge-spec : {M : Type 1} → statement M
 flip-edge-spec =
     tie.close
-    (tie.spec flip-rows-requires flip-rows-requires-2 same_length returns same-length-2 returns-2)
+    (tie.spec flip-rows-requires flip-rows-requires-2 same-length returns same-length-2 returns-2)

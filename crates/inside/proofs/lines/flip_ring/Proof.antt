@@ -37,8 +37,8 @@ slice-aggregate-flip-cells c = sym (length-take-le 961 c.before.before.before.be
 flip-cells-requires : tie.Need-flip-cells-requires
 flip-cells-requires c κs = length-take-le 961 c.before.before.before.before.args.cells.now (omega arith)
 
-same_length : tie.Need-same-length
-same_length c = search rules
+same-length : tie.Need-same-length
+same-length c = search rules
 
 returns-2 : tie.Need-returns-2
 returns-2 c =
@@ -53,5 +53,5 @@ flip-ring-spec =
     slice-relend-prefix-flip-cells
     slice-aggregate-flip-cells
     flip-cells-requires
-    same_length
+    same-length
     returns-2)

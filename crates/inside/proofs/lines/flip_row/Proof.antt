@@ -7,7 +7,7 @@ use native.Mathlib.Omega.{arith}
 use borrow.Author.Tests.{lt-ltb, le-ltb}
 use lib.Dec.{ltb}
 use lib.ListN.{get_or}
-use Rattle.inside.proofs.Cells.{Changed, none-changed, passed, cell-changed, all_changed}
+use Rattle.inside.proofs.Cells.{Changed, none-changed, passed, cell-changed, all-changed}
 use Rattle.inside.proofs.Flips.{flipped, unflipped}
 use Rattle.inside.proofs.lines.flip_row.Statement.{statement}
 use Rattle.inside.proofs.lines.flip_row.Tie as tie
@@ -43,15 +43,15 @@ loop-again c =
     let a = get_or l.loop.row l.loop.m false in
     (omega arith, cell-changed false 31 (flip n) l.before.args.row.now l.loop.m l.loop.row l.loop.invariant.1 (omega arith) (not a) (flipped a ∙ ap (xor a) (sym (lt-ltb l.loop.m n (omega arith)))))
 
-same_length : tie.Need-same-length invariant-loop decreases-loop
-same_length c = c.before.loop.invariant.1.count ∙ sym c.before.before.requires.1
+same-length : tie.Need-same-length invariant-loop decreases-loop
+same-length c = c.before.loop.invariant.1.count ∙ sym c.before.before.requires.1
 
 returns : tie.Need-returns invariant-loop decreases-loop
 returns c =
     let l = c.before in
     let n = l.before.args.count in
     let r = l.before.args.row.now in
-    all_changed false 31 (flip n) r 31 l.loop.row
+    all-changed false 31 (flip n) r 31 l.loop.row
     (passed false 31 (flip n) r l.loop.m l.loop.row l.loop.invariant.1 31 (omega arith) (λ k h g. rw (le-ltb k n (omega arith)) (unflipped (get_or r k false))))
     (omega arith)
 
@@ -67,5 +67,5 @@ flip-row-spec =
     add-m
     loop-less
     loop-again
-    same_length
+    same-length
     returns)

@@ -10,8 +10,8 @@ use lib.ListN.{get_or, length-take, length-drop}
 use Rattle.sheet.specs.Content.{point}
 use Rattle.inside.specs.Inside.{flips}
 use Rattle.inside.specs.Lines.{byRows}
-use Rattle.inside.proofs.Cells.{Changed, none-changed, passed, in-line, line-changed, all_changed}
-use Rattle.inside.proofs.Flips.{row-flips, still_before, still_after}
+use Rattle.inside.proofs.Cells.{Changed, none-changed, passed, in-line, line-changed, all-changed}
+use Rattle.inside.proofs.Flips.{row-flips, still-before, still-after}
 use Rattle.inside.proofs.lines.flip_rows.Statement.{statement}
 use Rattle.inside.proofs.lines.flip_rows.Tie as tie
 
@@ -35,7 +35,7 @@ loop-holds c =
       omega arith,
       omega arith,
       passed false 961 (edge x.a-u x.a-v x.b-u x.b-v) old 0 old (none-changed false 961 (edge x.a-u x.a-v x.b-u x.b-v) old c.before.requires.1) (31 * x.low) (omega arith)
-          (λ k h l. still_before (point x.a-u x.a-v) (point x.b-u x.b-v) x.low x.high p k (omega arith) l (get_or old k false)),
+          (λ k h l. still-before (point x.a-u x.a-v) (point x.b-u x.b-v) x.low x.high p k (omega arith) l (get_or old k false)),
     )
 
 add-part : tie.Need-overflow-add-part invariant-loop decreases-loop
@@ -98,8 +98,8 @@ loop-again c =
           (row-flips (point x.a-u x.a-v) (point x.b-u x.b-v) x.low x.high p j m c.before.before.before.before.lines-below.result (omega arith) (omega arith) h below (get_or old (31 * j + m) false)))),
     )
 
-same_length : tie.Need-same-length invariant-loop decreases-loop
-same_length c = c.before.loop.invariant.3.count ∙ sym c.before.before.before.requires.1
+same-length : tie.Need-same-length invariant-loop decreases-loop
+same-length c = c.before.loop.invariant.3.count ∙ sym c.before.before.before.requires.1
 
 returns : tie.Need-returns invariant-loop decreases-loop
 returns c =
@@ -108,9 +108,9 @@ returns c =
     let p = l.before.before.requires.0 in
     let top = p.most in
     let old = x.cells.now in
-    all_changed false 961 (edge x.a-u x.a-v x.b-u x.b-v) old 961 l.loop.cells
+    all-changed false 961 (edge x.a-u x.a-v x.b-u x.b-v) old 961 l.loop.cells
     (passed false 961 (edge x.a-u x.a-v x.b-u x.b-v) old (31 * l.loop.j) l.loop.cells l.loop.invariant.3 961 (omega arith)
-    (λ k h g. still_after (point x.a-u x.a-v) (point x.b-u x.b-v) x.low x.high p k g (omega arith) (get_or old k false)))
+    (λ k h g. still-after (point x.a-u x.a-v) (point x.b-u x.b-v) x.low x.high p k g (omega arith) (get_or old k false)))
     (omega arith)
 
 pub flip-rows-spec : {M : Type 1} → statement M
@@ -133,5 +133,5 @@ flip-rows-spec =
     add-j
     loop-less
     loop-again
-    same_length
+    same-length
     returns)

@@ -8,7 +8,7 @@ use native.Mathlib.Omega.{arith}
 use borrow.Author.Rules.{rules}
 use lib.ListN.{length}
 use Rattle.sheet.specs.Content.{point, pairs}
-use Rattle.points.proofs.Walk.{walk, walk_step, back_end}
+use Rattle.points.proofs.Walk.{walk, walk-step, back-end}
 use Rattle.inside.specs.Inside.{insideOf}
 use Rattle.inside.proofs.Insides.{flipStep, inside-none, inside-start}
 use Rattle.inside.proofs.point_in_ring.inside.Statement.{statement}
@@ -89,13 +89,13 @@ unfolding xor
 loop-again c =
     let x = c.before.before.before.before.before.before.before.before.before.args in
     let l = c.before.before.before.before.loop in
-    (omega arith, rw c.is-flip.ensures (sym (ap (foldl (flipStep (point x.u x.v)) l.in-so-far) (walk_step x.ring.now [] (point l.b-u l.b-v) l.k (omega arith))) ∙ l.invariant.1))
+    (omega arith, rw c.is-flip.ensures (sym (ap (foldl (flipStep (point x.u x.v)) l.in-so-far) (walk-step x.ring.now [] (point l.b-u l.b-v) l.k (omega arith))) ∙ l.invariant.1))
 
 returns-2 : tie.Need-returns-2 invariant-loop decreases-loop
 returns-2 c =
     let x = c.before.before.before.before.before.before.args in
     let l = c.before.loop in
-    sym (ap (foldl (flipStep (point x.u x.v)) l.in-so-far) (back_end x.ring.now (point l.b-u l.b-v) l.k c.loop-test.false)) ∙ l.invariant.1
+    sym (ap (foldl (flipStep (point x.u x.v)) l.in-so-far) (back-end x.ring.now (point l.b-u l.b-v) l.k c.loop-test.false)) ∙ l.invariant.1
 
 pub inside-spec : {M : Type 1} → statement M
 inside-spec =

@@ -25,8 +25,8 @@ bounded x a c l b L e h =
     swap : b * 2 * l * c ≡ 2 * (b * c * l)
     swap = simp (mul_assoc, mul_comm, mul_left_comm)
 
-same_sum : (a c : ℕ) → (a * c + a * c) * c ≡ 2 * a * (c * c)
-same_sum a c = ap (λ (x : ℕ). x * c) (sym (two-mul (a * c))) ∙ simp mul_assoc
+same-sum : (a c : ℕ) → (a * c + a * c) * c ≡ 2 * a * (c * c)
+same-sum a c = ap (λ (x : ℕ). x * c) (sym (two-mul (a * c))) ∙ simp mul_assoc
 
 room : (f : Format) → hid f * 2 * 2 ^ low f ≤ overflow f
 room f = subst (λ (x : ℕ). x ≤ overflow f) (pow-add 2 (prec f) (low f) ∙ ap (λ (x : ℕ). x * 2 ^ low f) (prec-hid f)) (pow_mono (go (prec f) (low f) (suc (emax f)) (reach f)))
@@ -44,7 +44,7 @@ double f m e h small =
     let C : 0 < c = down_pos e in
     let twice : 2 * a * l ≡ m * 2 ^ suc j.0 * c = mul_assoc 2 a l ∙ ap (λ (x : ℕ). 2 * x) j.1 ∙ twice-units m (2 ^ j.0) c ∙ ap (λ (x : ℕ). m * x * c) (sym (pow-suc 2 j.0)) in
     let fine : m * 2 ^ suc j.0 < overflow f = lt_of_lt_of_le (bounded (m * 2 ^ suc j.0) a c l (hid f) (pow_pos (low f)) twice small) (room f) in
-    let is : round f false (a * c + a * c) (c * c) ≡ round f false (2 * a) c = round_same f false (a * c + a * c) (c * c) (2 * a) c (mul-pos C C) C (same_sum a c) in
+    let is : round f false (a * c + a * c) (c * c) ≡ round f false (2 * a) c = round_same f false (a * c + a * c) (c * c) (2 * a) c (mul-pos C C) C (same-sum a c) in
     subst (λ (x : Float). HasValue x false (2 * a) c) (sym is) (round_exact f false (2 * a) c m (suc j.0) C (in-format f false m e h).digits fine twice)
   where
     twice-units : (m p c : ℕ) → 2 * (m * p * c) ≡ m * (p * 2) * c

@@ -31,8 +31,8 @@ done c =
     let t = begun c.before in
     turned _ l.found l.left (l.place - 1) (1 * 2 ^ (l.place - 1) % 2 ^ 64) c.next-digit.result t t.weight c.next-digit.ensures
 
-add_step : tie.Need-overflow-add-step invariant-loop decreases-loop
-add_step c = let t = begun c in omega (arith, t.room)
+add-step : tie.Need-overflow-add-step invariant-loop decreases-loop
+add-step c = let t = begun c in omega (arith, t.room)
 
 shl-step : tie.Need-overflow-shl-step invariant-loop decreases-loop
 shl-step c = let t = begun c in omega (arith, t.below)
@@ -49,8 +49,8 @@ shl-found c = let t = begun c.before in omega (arith, t.below)
 add-found : tie.Need-overflow-add-found invariant-loop decreases-loop
 add-found c = let d = done c in omega (arith, d.next.small)
 
-mul_left : tie.Need-overflow-mul-left invariant-loop decreases-loop
-mul_left c = let t = begun c.before in let d = done c in omega (arith, t.rest, d.fits)
+mul-left : tie.Need-overflow-mul-left invariant-loop decreases-loop
+mul-left c = let t = begun c.before in let d = done c in omega (arith, t.rest, d.fits)
 
 sub-left : tie.Need-overflow-sub-left invariant-loop decreases-loop
 sub-left c = (done c).ranges
@@ -82,13 +82,13 @@ digits-spec =
     decreases-loop
     loop-holds
     sub-place
-    add_step
+    add-step
     shl-step
     add-step-2
     next-digit-requires
     shl-found
     add-found
-    mul_left
+    mul-left
     sub-left
     mul-left-2
     loop-less

@@ -4,7 +4,7 @@ use Rattle.std.proofs.Common.{◌≡◌, ℕ, ◌+◌, ◌-◌, ◌/◌, ◌%◌
 use lib.Ieee.{binary64, of_bits, to_bits}
 use Rattle.leaves.specs.Root.{rootOf}
 use Rattle.leaves.proofs.Order.{lt-right}
-use Rattle.leaves.proofs.Packing.{Unpacked, unpacked, above_zero}
+use Rattle.leaves.proofs.Packing.{Unpacked, unpacked, above-zero}
 use Rattle.leaves.proofs.PackedRoots.{lowered-power}
 use Rattle.leaves.proofs.square_root.root_above_zero.Statement.{statement}
 use Rattle.leaves.proofs.square_root.root_above_zero.Tie as tie
@@ -12,7 +12,7 @@ use Rattle.leaves.proofs.square_root.root_above_zero.Tie as tie
 -- the fields of x's bits
 fields : (c : tie.Start) → (to_bits binary64 c.args.x < 2 ^ 63) × Unpacked binary64 c.args.x (to_bits binary64 c.args.x / 2 ^ 52) (to_bits binary64 c.args.x % 2 ^ 52)
 unfolding of_bits
-fields c = unpacked binary64 c.args.x (subst T (sym c.well-formed.0.1) tt) (above_zero c.args.x c.requires)
+fields c = unpacked binary64 c.args.x (subst T (sym c.well-formed.0.1) tt) (above-zero c.args.x c.requires)
 
 float-to-bits-bits : tie.Need-float-to-bits-bits
 float-to-bits-bits c = lt-right _ c.args.x c.requires

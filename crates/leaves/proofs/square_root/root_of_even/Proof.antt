@@ -54,7 +54,7 @@ returns c =
     record {
       is = λ x v.
           ap (λ r. of_bits binary64 (half * 2 ^ 52 + (r + 1) / 2)) k.is
-          ∙ even-root binary64 x significand half 54 2096 refl v d.enough d.few d.no_tie (omega (arith, c.before.before.requires.0)) (omega (arith, c.before.before.requires.1.1));
+          ∙ even-root binary64 x significand half 54 2096 refl v d.enough d.few d.no-tie (omega (arith, c.before.before.requires.0)) (omega (arith, c.before.before.requires.1.1));
     }
 
 pub root-of-even-spec : {M : Type 1} → statement M

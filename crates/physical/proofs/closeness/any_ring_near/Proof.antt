@@ -16,10 +16,10 @@ use Rattle.space.specs.Places.{triples}
 use Rattle.space.specs.declared.vectors.Place.{Place}
 use Rattle.sheet.specs.Content.{Coedge}
 use Rattle.sheet.specs.Layout.{headSize, kind, blockSize, cut, ring, sheetOf}
-use Rattle.sheet.proofs.Blocks.{block-size-at, first_byte, ring-points-length}
+use Rattle.sheet.proofs.Blocks.{block-size-at, first-byte, ring-points-length}
 use Rattle.sheet.proofs.Checked.{head-size-most, rings-are}
 use Rattle.sheet.proofs.Walks.{rings-step, rings-end}
-use Rattle.frame.proofs.Preparing.{cut_short}
+use Rattle.frame.proofs.Preparing.{cut-short}
 use Rattle.physical.specs.Images.{imageNumbers, ringImages}
 use Rattle.physical.specs.Stages.{anyNear}
 use Rattle.physical.proofs.Nearness.{ringsNear, ring-next, ring-found, ring-none}
@@ -33,7 +33,7 @@ own-numbers : (s : List ℕ) (at : ℕ) → imageNumbers (ring (take (blockSize 
 unfolding imageNumbers
 own-numbers s at =
     let byte : get_or (drop at s) 0 0 ≡ get_or s at 0 = simp (get_or-drop, add-zero) in
-    ap (λ (n : ℕ). 3 * n) (ring-points-length (take (blockSize (drop at s)) (drop at s)) ∙ ap (λ (n : ℕ). 17 * n) (first_byte (drop at s) ∙ byte))
+    ap (λ (n : ℕ). 3 * n) (ring-points-length (take (blockSize (drop at s)) (drop at s)) ∙ ap (λ (n : ℕ). 17 * n) (first-byte (drop at s) ∙ byte))
 
 module _ (s : List ℕ) (images : List Float) (n : ℕ) where
   abbrev imagesFrom : ℕ → ℕ → ℕ → List (List Place)
@@ -131,7 +131,7 @@ after c =
     let x = c.before.before.before.before.before.before.before.before.before.before.before.before.args in
     let s = x.s.now in
     let byte = c.before.before.before.before.byte-at3 in
-    let part = cut_short x.images.now l.loop.from (3 * (17 * byte.result)) _ _ c.before.before.before.held.ensures c.before.before.held2.ensures ∙ ap (λ (b : ℕ). take (3 * (17 * b)) (drop l.loop.from x.images.now)) byte.ensures in
+    let part = cut-short x.images.now l.loop.from (3 * (17 * byte.result)) _ _ c.before.before.before.held.ensures c.before.before.held2.ensures ∙ ap (λ (b : ℕ). take (3 * (17 * b)) (drop l.loop.from x.images.now)) byte.ensures in
     let step = images-step s x.images.now l.before.byte-at2.result l.loop.at l.loop.from l.loop.k c.before.before.before.before.before.loop-test.true in
     ring-next x.limit x.p step (c.any-near.ensures ∙ ap (λ (xs : List Float). anyNear x.limit x.p false (triples xs)) part) l.loop.invariant.3
 
@@ -148,8 +148,8 @@ block-size-requires c κs = search rules
 size-most : (c : tie.After-block-size invariant-loop decreases-loop) → c.block_size.result ≤ 71401
 size-most c = omega (arith, c.block_size.ensures, block-size-at c.before.before.before.before.before.before.before.before.before.before.before.before.before.before.args.s.now c.before.before.before.before.before.before.before.before.loop.at, c.before.before.before.before.before.before.byte-at3.ensures)
 
-add_at : tie.Need-overflow-add-at invariant-loop decreases-loop
-add_at c = omega (arith, size-most c)
+add-at : tie.Need-overflow-add-at invariant-loop decreases-loop
+add-at c = omega (arith, size-most c)
 
 add-k : tie.Need-overflow-add-k invariant-loop decreases-loop
 add-k c = omega arith
@@ -195,7 +195,7 @@ any-ring-near-spec =
     any-near-requires
     returns
     block-size-requires
-    add_at
+    add-at
     add-k
     loop-less
     loop-again

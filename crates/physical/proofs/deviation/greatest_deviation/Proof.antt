@@ -13,7 +13,7 @@ use Rattle.sheet.specs.Layout.{headSize, kind, blockSize, cut, ring, sheetOf}
 use Rattle.sheet.proofs.Blocks.{block-size-at}
 use Rattle.sheet.proofs.Checked.{head-size-most, ringsOf, rings-are}
 use Rattle.sheet.proofs.Walks.{rings-step, rings-end}
-use Rattle.frame.proofs.Preparing.{cut_short}
+use Rattle.frame.proofs.Preparing.{cut-short}
 use Rattle.physical.specs.Physical.{deviates, greatestDeviation}
 use Rattle.physical.proofs.deviation.greatest_deviation.Statement.{statement}
 use Rattle.physical.proofs.deviation.greatest_deviation.Tie as tie
@@ -89,7 +89,7 @@ found-is c =
     let l = c.before.before.before.before.before.before in
     let s = c.before.before.before.before.before.before.before.before.before.before.before.args.s.now in
     let size = c.before.before.before.before.block_size in
-    let block = cut_short s l.loop.at size.result _ _ c.before.before.before.held.ensures c.before.before.held2.ensures ∙ ap (λ (n : ℕ). take n (drop l.loop.at s)) size.ensures in
+    let block = cut-short s l.loop.at size.result _ _ c.before.before.before.held.ensures c.before.before.held2.ensures ∙ ap (λ (n : ℕ). take n (drop l.loop.at s)) size.ensures in
     c.larger-deviation.ensures ∙ ap (λ (b : List ℕ). deviates l.loop.found (ring b)) block
 
 -- what is left after the ring in it

@@ -12,9 +12,9 @@ use lib.Ieee.{Float}
 use lib.ListN.{length, drop}
 use Rattle.space.specs.Places.{triples, placeAt}
 use Rattle.space.specs.declared.vectors.Place.{Place}
-use Rattle.space.proofs.Triples.{triples_step, triples-end}
+use Rattle.space.proofs.Triples.{triples-step, triples-end}
 use Rattle.physical.specs.Stages.{anyNear}
-use Rattle.physical.proofs.Nearness.{nearFrom, near_none, near-start, near_next, near-found, near_last}
+use Rattle.physical.proofs.Nearness.{nearFrom, near-none, near-start, near-next, near-found, near-last}
 use Rattle.physical.proofs.near_segments.any_near.Statement.{statement}
 use Rattle.physical.proofs.near_segments.any_near.Tie as tie
 
@@ -27,10 +27,10 @@ decreases-loop limit far p ring count first a₀ k₀ a k = count - k
 
 -- the next place is the one that was read
 next : (xs : List Float) (k : ℕ) {p : Place} → p ≡ placeAt xs (3 * k) → 3 * k + 2 < length xs → triples (drop (3 * k) xs) ≡ p ∷ triples (drop (3 * (k + 1)) xs)
-next xs k e h = rw e (triples_step xs k h)
+next xs k e h = rw e (triples-step xs k h)
 
 returns : tie.Need-returns invariant-loop decreases-loop
-returns c = near_none c.before.before.args.limit c.before.before.args.p (triples-end c.before.before.args.ring.now 0 (omega arith))
+returns c = near-none c.before.before.args.limit c.before.before.args.p (triples-end c.before.before.args.ring.now 0 (omega arith))
 
 place-at-requires : tie.Need-place-at-requires invariant-loop decreases-loop
 place-at-requires c κs = search rules
@@ -57,7 +57,7 @@ after : (c : tie.After-is-near invariant-loop decreases-loop) →
 after c =
     let l = c.before.before.before in
     let x = c.before.before.before.before.before.before.before.args in
-    near_next x.limit x.p l.before.place_at.result l.loop.a (next x.ring.now l.loop.k c.before.place-at2.ensures (omega arith)) c.is-near.ensures l.loop.invariant.2
+    near-next x.limit x.p l.before.place_at.result l.loop.a (next x.ring.now l.loop.k c.before.place-at2.ensures (omega arith)) c.is-near.ensures l.loop.invariant.2
 
 returns-2 : tie.Need-returns-2 invariant-loop decreases-loop
 returns-2 c =
@@ -80,7 +80,7 @@ returns-3 : tie.Need-returns-3 invariant-loop decreases-loop
 returns-3 c =
     let l = c.before.before in
     let x = c.before.before.before.before.before.before.args in
-    near_last x.limit x.p l.before.place_at.result l.loop.a (triples-end x.ring.now l.loop.k (omega arith)) c.is-near2.ensures l.loop.invariant.2
+    near-last x.limit x.p l.before.place_at.result l.loop.a (triples-end x.ring.now l.loop.k (omega arith)) c.is-near2.ensures l.loop.invariant.2
 
 pub any-near-spec : {M : Type 1} → statement M
 any-near-spec =

@@ -5,7 +5,7 @@ use mathlib.Core.Bool.{Bool, true, false}
 use lib.Dec.{T}
 use lib.Ieee.{Float, le}
 use borrow.Author.Rules.{rules}
-use Rattle.leaves.specs.Hypot.{key_of, hypotOfKey, hypotOf}
+use Rattle.leaves.specs.Hypot.{keyOf, hypotOfKey, hypotOf}
 use Rattle.leaves.proofs.Hypotenuses.{hypot-by-key, hypot3-by-key}
 use Rattle.space.specs.declared.vectors.Place.{Place}
 use Rattle.points.specs.Segments.{Between, between}
@@ -20,11 +20,11 @@ refused true h = absurd (h tt)
 refused false h = refl
 
 module _ (limit : Float) (p : Place) (s : Between Place) where
-  is-far : (k : Float) → Far limit k → le k (key_of (residual p s).x (residual p s).y) ≡ true → false ≡ isNear limit p s
+  is-far : (k : Float) → Far limit k → le k (keyOf (residual p s).x (residual p s).y) ≡ true → false ≡ isNear limit p s
   unfolding isNear distance
   is-far k far e = refused (le (distance p s) limit) (far.beyond (residual p s).x (residual p s).y (residual p s).z (subst T (sym e) tt))
 
-  measured : le (hypotOf (hypotOfKey (key_of (residual p s).x (residual p s).y)) (residual p s).z) limit ≡ isNear limit p s
+  measured : le (hypotOf (hypotOfKey (keyOf (residual p s).x (residual p s).y)) (residual p s).z) limit ≡ isNear limit p s
   unfolding isNear distance
   measured = ap (λ (d : Float). le d limit) (ap (λ (h : Float). hypotOf h (residual p s).z) (sym (hypot-by-key (residual p s).x (residual p s).y)) ∙ hypot-by-key _ _ ∙ sym (hypot3-by-key (residual p s).x (residual p s).y (residual p s).z))
 
@@ -39,7 +39,7 @@ returns c =
     let r = c.before.before in
     let x = r.before.args in
     is-far x.limit x.p (between x.a x.b) x.far r.before.requires
-    (ap (le x.far) (ap (λ (d : Place). key_of d.x d.y) (sym r.residual.ensures) ∙ sym c.before.key.ensures) ∙ c.if1.true)
+    (ap (le x.far) (ap (λ (d : Place). keyOf d.x d.y) (sym r.residual.ensures) ∙ sym c.before.key.ensures) ∙ c.if1.true)
 
 hypot-of-key-requires : tie.Need-hypot-of-key-requires
 hypot-of-key-requires c κs = search rules

@@ -10,28 +10,28 @@ use lib.Ieee.{Float, nan}
 use lib.ListN.{length, drop}
 use Rattle.space.specs.declared.vectors.Place.{Place}
 use Rattle.sheet.specs.Content.{pairs}
-use Rattle.points.proofs.Pairs.{pairs-step, pairs_end}
+use Rattle.points.proofs.Pairs.{pairs-step, pairs-end}
 use Rattle.points.proofs.Walk.{pointAt}
-use Rattle.physical.specs.Stages.{anyNear, image_of}
+use Rattle.physical.specs.Stages.{anyNear, imageOf}
 use Rattle.physical.specs.declared.plane_points.Axes.{Axes}
-use Rattle.physical.proofs.Nearness.{nearFrom, near_none, near-start, near_next, near-found, near_last}
+use Rattle.physical.proofs.Nearness.{nearFrom, near-none, near-start, near-next, near-found, near-last}
 use Rattle.physical.proofs.plane_closeness.any_image_near.Statement.{statement}
 use Rattle.physical.proofs.plane_closeness.any_image_near.Tie as tie
 
 -- the images of the points from place k on
 abbrev imagesFrom : Axes → List Float → ℕ → List Place
-imagesFrom axes ring k = map (image_of axes) (pairs (drop (2 * k) ring))
+imagesFrom axes ring k = map (imageOf axes) (pairs (drop (2 * k) ring))
 
 -- the next is the one that was made
-next : (axes : Axes) (xs : List Float) (k : ℕ) {p : Place} → p ≡ image_of axes (pointAt xs k) → 2 * k + 1 < length xs → imagesFrom axes xs k ≡ p ∷ imagesFrom axes xs (k + 1)
-next axes xs k e h = rw e (ap (map (image_of axes)) (pairs-step xs k nan h))
+next : (axes : Axes) (xs : List Float) (k : ℕ) {p : Place} → p ≡ imageOf axes (pointAt xs k) → 2 * k + 1 < length xs → imagesFrom axes xs k ≡ p ∷ imagesFrom axes xs (k + 1)
+next axes xs k e h = rw e (ap (map (imageOf axes)) (pairs-step xs k nan h))
 
 none : (axes : Axes) (xs : List Float) (k : ℕ) → length xs / 2 ≤ k → imagesFrom axes xs k ≡ []
-none axes xs k h = ap (map (image_of axes)) (pairs_end xs k h)
+none axes xs k h = ap (map (imageOf axes)) (pairs-end xs k h)
 
 abbrev invariant-loop : tie.invariant-loop
 invariant-loop limit far p axes ring count first a₀ k₀ a k =
-    (1 ≤ k) × (k ≤ length ring / 2) × (nearFrom limit p first false a (imagesFrom axes ring k) ≡ anyNear limit p false (map (image_of axes) (pairs ring)))
+    (1 ≤ k) × (k ≤ length ring / 2) × (nearFrom limit p first false a (imagesFrom axes ring k) ≡ anyNear limit p false (map (imageOf axes) (pairs ring)))
 
 abbrev decreases-loop : tie.decreases-loop
 decreases-loop limit far p axes ring count first a₀ k₀ a k = count - k
@@ -39,7 +39,7 @@ decreases-loop limit far p axes ring count first a₀ k₀ a k = count - k
 returns : tie.Need-returns invariant-loop decreases-loop
 returns c =
     let x = c.before.before.args in
-    near_none x.limit x.p (none x.axes x.ring.now 0 (omega arith))
+    near-none x.limit x.p (none x.axes x.ring.now 0 (omega arith))
 
 image-at-requires : tie.Need-image-at-requires invariant-loop decreases-loop
 image-at-requires c κs = omega arith
@@ -59,11 +59,11 @@ is-near-requires c κs = search rules
 after : (c : tie.After-is-near invariant-loop decreases-loop) →
     let l = c.before.before.before in
     let x = c.before.before.before.before.before.before.before.args in
-    nearFrom x.limit x.p l.before.image-at.result c.is-near.result c.before.image-at2.result (imagesFrom x.axes x.ring.now (l.loop.k + 1)) ≡ anyNear x.limit x.p false (map (image_of x.axes) (pairs x.ring.now))
+    nearFrom x.limit x.p l.before.image-at.result c.is-near.result c.before.image-at2.result (imagesFrom x.axes x.ring.now (l.loop.k + 1)) ≡ anyNear x.limit x.p false (map (imageOf x.axes) (pairs x.ring.now))
 after c =
     let l = c.before.before.before in
     let x = c.before.before.before.before.before.before.before.args in
-    near_next x.limit x.p l.before.image-at.result l.loop.a (next x.axes x.ring.now l.loop.k c.before.image-at2.ensures (omega arith)) c.is-near.ensures l.loop.invariant.2
+    near-next x.limit x.p l.before.image-at.result l.loop.a (next x.axes x.ring.now l.loop.k c.before.image-at2.ensures (omega arith)) c.is-near.ensures l.loop.invariant.2
 
 returns-2 : tie.Need-returns-2 invariant-loop decreases-loop
 returns-2 c =
@@ -86,7 +86,7 @@ returns-3 : tie.Need-returns-3 invariant-loop decreases-loop
 returns-3 c =
     let l = c.before.before in
     let x = c.before.before.before.before.before.before.args in
-    near_last x.limit x.p l.before.image-at.result l.loop.a (none x.axes x.ring.now l.loop.k (omega arith)) c.is-near2.ensures l.loop.invariant.2
+    near-last x.limit x.p l.before.image-at.result l.loop.a (none x.axes x.ring.now l.loop.k (omega arith)) c.is-near2.ensures l.loop.invariant.2
 
 pub any-image-near-spec : {M : Type 1} → statement M
 any-image-near-spec =

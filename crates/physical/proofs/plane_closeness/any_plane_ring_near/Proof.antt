@@ -13,9 +13,9 @@ use borrow.Author.Rules.{rules}
 use Rattle.space.specs.declared.vectors.Place.{Place}
 use Rattle.sheet.specs.Content.{Point, pairs}
 use Rattle.frame.specs.Parts.{ringsFrom}
-use Rattle.frame.proofs.Preparing.{cut_short}
+use Rattle.frame.proofs.Preparing.{cut-short}
 use Rattle.frame.proofs.Rings.{rings-step, rings-end}
-use Rattle.physical.specs.Stages.{anyNear, image_of}
+use Rattle.physical.specs.Stages.{anyNear, imageOf}
 use Rattle.physical.specs.declared.plane_points.Axes.{Axes}
 use Rattle.physical.proofs.Nearness.{ringsNear, ring-next, ring-found, ring-none}
 use Rattle.physical.proofs.plane_closeness.any_plane_ring_near.Statement.{statement}
@@ -23,7 +23,7 @@ use Rattle.physical.proofs.plane_closeness.any_plane_ring_near.Tie as tie
 
 -- the images of the rings
 abbrev imagesOf : Axes → List (List Point) → List (List Place)
-imagesOf axes rings = map (map (image_of axes)) rings
+imagesOf axes rings = map (map (imageOf axes)) rings
 
 abbrev invariant-loop : tie.invariant-loop
 invariant-loop limit far p axes points ends size from₀ k₀ from k =
@@ -77,9 +77,9 @@ after c =
     let points = x.points.now in
     let end = get_or x.ends.now l.loop.k 0 in
     let upper = c.before.before.held2.ensures ∙ ap (λ (n : ℕ). min n (length points)) c.before.before.before.later.ensures in
-    let part = cut_short points l.loop.from (end - l.loop.from) _ _ c.before.before.before.before.held.ensures upper in
+    let part = cut-short points l.loop.from (end - l.loop.from) _ _ c.before.before.before.before.held.ensures upper in
     let step = ap (imagesOf x.axes) (rings-step x.ends.now l.loop.k c.before.before.before.before.before.before.loop-test.true l.loop.from points) in
-    ring-next x.limit x.p step (c.any-image-near.ensures ∙ ap (λ (xs : List Float). anyNear x.limit x.p false (map (image_of x.axes) (pairs xs))) part) l.loop.invariant.1
+    ring-next x.limit x.p step (c.any-image-near.ensures ∙ ap (λ (xs : List Float). anyNear x.limit x.p false (map (imageOf x.axes) (pairs xs))) part) l.loop.invariant.1
 
 returns : tie.Need-returns invariant-loop decreases-loop
 returns c =

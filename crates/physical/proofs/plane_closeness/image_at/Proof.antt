@@ -1,8 +1,8 @@
 -- `physical::plane_closeness::image_at` is `image_of` the point at k: the phase's angle is taken from v, as when the
 -- point is written.
 use borrow.Author.Rules.{rules}
-use Rattle.points.proofs.Flat.{written_is}
-use Rattle.physical.specs.Stages.{image_of}
+use Rattle.points.proofs.Flat.{written-is}
+use Rattle.physical.specs.Stages.{imageOf}
 use Rattle.physical.proofs.plane_closeness.image_at.Statement.{statement}
 use Rattle.physical.proofs.plane_closeness.image_at.Tie as tie
 
@@ -34,8 +34,8 @@ on-axes-requires : tie.Need-on-axes-requires
 on-axes-requires c κs = search rules
 
 returns : tie.Need-returns
-unfolding image_of
-returns c = rw (written_is, c.on-axes.ensures, c.before.phase-angle.ensures)
+unfolding imageOf
+returns c = rw (written-is, c.on-axes.ensures, c.before.phase-angle.ensures)
 
 pub image-at-spec : {M : Type 1} → statement M
 image-at-spec =

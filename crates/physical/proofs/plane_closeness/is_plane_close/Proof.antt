@@ -11,7 +11,7 @@ use Rattle.sheet.specs.Content.{Point}
 use Rattle.sheet.specs.Layout.{numbers, sheetOf}
 use Rattle.frame.specs.Parts.{ringsFrom}
 use Rattle.physical.specs.Plane.{planeImagesOf}
-use Rattle.physical.specs.Stages.{axesOf, image_of}
+use Rattle.physical.specs.Stages.{axesOf, imageOf}
 use Rattle.physical.specs.declared.plane_points.Axes.{Axes}
 use Rattle.physical.proofs.Nearness.{ringsNear}
 use Rattle.physical.proofs.PlaneNumbers.{images-on-plane}
@@ -20,9 +20,9 @@ use Rattle.physical.proofs.plane_closeness.is_plane_close.Statement.{statement}
 use Rattle.physical.proofs.plane_closeness.is_plane_close.Tie as tie
 
 -- the images on the axes that were read are those on the plane
-on-plane : (limit : Float) (p : Place) (plane : List Float) (rings : List (List Point)) {axes : Axes} {near : Bool} → axes ≡ axesOf plane → near ≡ ringsNear limit p false (map (map (image_of axes)) rings) → near ≡ ringsNear limit p false (planeImagesOf plane rings)
+on-plane : (limit : Float) (p : Place) (plane : List Float) (rings : List (List Point)) {axes : Axes} {near : Bool} → axes ≡ axesOf plane → near ≡ ringsNear limit p false (map (map (imageOf axes)) rings) → near ≡ ringsNear limit p false (planeImagesOf plane rings)
 on-plane limit p plane rings e n =
-    n ∙ ap (λ (a : Axes). ringsNear limit p false (map (map (image_of a)) rings)) e ∙ ap (ringsNear limit p false) (images-on-plane plane rings)
+    n ∙ ap (λ (a : Axes). ringsNear limit p false (map (map (imageOf a)) rings)) e ∙ ap (ringsNear limit p false) (images-on-plane plane rings)
 
 least-clearance-requires : tie.Need-least-clearance-requires
 least-clearance-requires c κs = search rules

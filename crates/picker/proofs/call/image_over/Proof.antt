@@ -8,7 +8,7 @@ use Rattle.sheet.specs.Layout.{sheetOf}
 use Rattle.frame.specs.Seam.{fitting}
 use Rattle.frame.proofs.Counting.{ring-number}
 use Rattle.chart.proofs.Calling.{fits-of}
-use Rattle.chart.proofs.Finding.{told-refused, told_chosen}
+use Rattle.chart.proofs.Finding.{told-refused, told-chosen}
 use Rattle.picker.proofs.Calling.{image-reads, images-long, image-refused, image-answered}
 use borrow.Author.Rules.{rules}
 use Rattle.picker.proofs.call.image_over.Statement.{statement}
@@ -42,8 +42,8 @@ too-close-requires c κs = search rules
 answer-at-requires : tie.Need-answer-at-requires
 answer-at-requires c κs = search rules
 
-same_length : tie.Need-same-length
-same_length c = search rules
+same-length : tie.Need-same-length
+same-length c = search rules
 
 same-length-2 : tie.Need-same-length-2
 same-length-2 c = search rules
@@ -64,7 +64,7 @@ returns-2 : tie.Need-returns-2
 returns-2 c =
     let a = c.before.before.before.before.before.before.before.before.before.before.before.before.before.before.before.before.before in
     let f = c.before.before.before.before.before.before.before.before.before.before in
-    let t = told_chosen _ (sheetOf a.args.s.now) a.args.phase _ _ (fit f) (sym f.find.ensures.0 ∙ c.before.before.before.before.best.given.1) in
+    let t = told-chosen _ (sheetOf a.args.s.now) a.args.phase _ _ (fit f) (sym f.find.ensures.0 ∙ c.before.before.before.before.best.given.1) in
     image-answered a.requires.0 c.answer_at.result t.0 c.before.before.place_at.ensures c.before.too-close.ensures t.2 c.answer_at.ensures
 
 pub image-over-spec : {M : Type 1} → statement M
@@ -78,7 +78,7 @@ image-over-spec =
     place-at-requires
     too-close-requires
     answer-at-requires
-    same_length
+    same-length
     same-length-2
     returns
     same-length-3

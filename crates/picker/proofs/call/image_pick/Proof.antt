@@ -4,7 +4,7 @@ use mathlib.Core.Path.{◌≡◌, sym, ◌∙◌}
 use Rattle.answers.specs.Outcome.{first}
 use Rattle.frame.specs.Seam.{phaseChecks}
 use Rattle.frame.proofs.SheetFrame.{points-most}
-use Rattle.chart.proofs.Calling.{reads_of}
+use Rattle.chart.proofs.Calling.{reads-of}
 use Rattle.picker.proofs.Calling.{image-unread, image-wrong}
 use borrow.Author.Rules.{rules}
 use Rattle.picker.proofs.call.image_pick.Statement.{statement}
@@ -20,7 +20,7 @@ passes : (c : tie.Else1) → first (phaseChecks c.before.before.before.before.ar
 passes c = sym c.before.refusal.ensures ∙ c.if1.false
 
 images-wrong-requires : tie.Need-images-wrong-requires
-images-wrong-requires c κs = points-most c.before.before.before.before.args.s.now (reads_of c.before.before.before.before.args.s.now c.before.before.before.before.args.phase (passes c))
+images-wrong-requires c κs = points-most c.before.before.before.before.args.s.now (reads-of c.before.before.before.before.args.s.now c.before.before.before.before.args.phase (passes c))
 
 returns-2 : tie.Need-returns-2
 returns-2 c = image-wrong c.before.before.before.before.before.before.args.s.now c.before.before.before.before.before.before.args.phase c.before.before.before.before.before.before.args.images.now (passes c.before.before) (sym c.before.images-wrong.ensures ∙ c.if2.true)

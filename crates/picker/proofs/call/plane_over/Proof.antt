@@ -11,7 +11,7 @@ use Rattle.frame.proofs.Counting.{ring-number}
 use Rattle.frame.proofs.LaidOut.{laid-points, laid-ends}
 use Rattle.frame.proofs.Parting.{rings-are}
 use Rattle.chart.proofs.Calling.{fits-of}
-use Rattle.chart.proofs.Finding.{told-refused, told_chosen}
+use Rattle.chart.proofs.Finding.{told-refused, told-chosen}
 use Rattle.picker.proofs.Calling.{plane-refused, plane-answered}
 use borrow.Author.Rules.{rules}
 use Rattle.picker.proofs.call.plane_over.Statement.{statement}
@@ -41,8 +41,8 @@ is-plane-close-requires c κs = search rules
 answer-at-requires : tie.Need-answer-at-requires
 answer-at-requires c κs = search rules
 
-same_length : tie.Need-same-length
-same_length c = search rules
+same-length : tie.Need-same-length
+same-length c = search rules
 
 same-length-2 : tie.Need-same-length-2
 same-length-2 c = search rules
@@ -77,7 +77,7 @@ returns-2 : tie.Need-returns-2
 returns-2 c =
     let a = c.before.before.before.before.before.before.before.before.before.before.before.before.before.before.before.before.before.before.before.before in
     let f = c.before.before.before.before.before.before.before.before.before.before.before.before.before.before in
-    let t = told_chosen _ (sheetOf a.args.s.now) 0 _ _ (fit f) (sym f.find.ensures.0 ∙ c.before.before.before.before.before.before.before.before.f.given.1) in
+    let t = told-chosen _ (sheetOf a.args.s.now) 0 _ _ (fit f) (sym f.find.ensures.0 ∙ c.before.before.before.before.before.before.before.before.f.given.1) in
     plane-answered a.requires.0 c.answer_at.result t.0 t.1 t.2 (rings-back f) c.before.before.before.before.before.before.answered-u.ensures c.before.before.before.before.before.answered-v.ensures c.before.before.before.before.place-on.ensures c.before.is-plane-close.ensures c.answer_at.ensures
 
 pub plane-over-spec : {M : Type 1} → statement M
@@ -92,7 +92,7 @@ plane-over-spec =
     place-on-requires
     is-plane-close-requires
     answer-at-requires
-    same_length
+    same-length
     same-length-2
     returns
     same-length-3

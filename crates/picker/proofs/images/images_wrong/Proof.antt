@@ -10,7 +10,7 @@ use lib.ListN.{length}
 use borrow.Author.Rules.{rules}
 use borrow.Author.Tests.{eq-eqb, ne_eqb}
 use Rattle.sheet.specs.Content.{Sheet}
-use Rattle.answers.specs.Lists.{any_of}
+use Rattle.answers.specs.Lists.{anyOf}
 use Rattle.sheet.specs.Layout.{sheetOf}
 use Rattle.answers.specs.Limits.{beyond}
 use Rattle.frame.specs.Framing.{pointCount}
@@ -26,7 +26,7 @@ module _ (s : Sheet) (images : List Float) (n : ℕ) (counted : n ≡ 2 * pointC
   unfolding imagesWrong
   wrong-length h = rw (ne_eqb (length images) (3 * (pointCount s + 1)) (λ e. h (e ∙ sym asked)))
 
-  right-length : length images ≡ 3 * (n / 2 + 1) → imagesWrong s images ≡ any_of (beyond imageLimit) images
+  right-length : length images ≡ 3 * (n / 2 + 1) → imagesWrong s images ≡ anyOf (beyond imageLimit) images
   unfolding imagesWrong
   right-length h = rw (eq-eqb (length images) (3 * (pointCount s + 1)) (h ∙ asked))
 

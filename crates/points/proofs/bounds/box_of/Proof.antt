@@ -10,7 +10,7 @@ use lib.ListN.{drop}
 use Rattle.leaves.specs.Bounds.{smallerOf, largerOf}
 use Rattle.sheet.specs.Content.{pairs}
 use Rattle.points.specs.Bounds.{axisOf, least, greatest, boxOf}
-use Rattle.points.proofs.Axes.{fold_step, fold_end}
+use Rattle.points.proofs.Axes.{fold-step, fold-end}
 use Rattle.points.proofs.bounds.box_of.Statement.{statement}
 use Rattle.points.proofs.bounds.box_of.Tie as tie
 
@@ -29,8 +29,8 @@ loop-holds : tie.Need-loop-init invariant-loop decreases-loop
 unfolding least greatest div neg of_bits
 loop-holds c = (omega arith, refl, refl, refl, refl)
 
-mul_at : tie.Need-overflow-mul-at invariant-loop decreases-loop
-mul_at c = omega arith
+mul-at : tie.Need-overflow-mul-at invariant-loop decreases-loop
+mul-at c = omega arith
 
 mul-u : tie.Need-overflow-mul-u invariant-loop decreases-loop
 mul-u c = omega arith
@@ -71,10 +71,10 @@ loop-again c =
     let i = c.before.before.before.before.before.before.before.loop in
     let xs = c.before.before.before.before.before.before.before.before.before.args.points.now in (
       omega arith,
-      rw c.before.before.before.smaller-of.ensures (sym (fold_step smallerOf 0 xs i.k i.least-u nan (omega arith)) ∙ i.invariant.1),
-      rw c.before.before.smaller-of2.ensures (sym (fold_step smallerOf 1 xs i.k i.least-v nan (omega arith)) ∙ i.invariant.2),
-      rw c.before.larger-of.ensures (sym (fold_step largerOf 0 xs i.k i.greatest-u nan (omega arith)) ∙ i.invariant.3),
-      rw c.larger-of2.ensures (sym (fold_step largerOf 1 xs i.k i.greatest-v nan (omega arith)) ∙ i.invariant.4),
+      rw c.before.before.before.smaller-of.ensures (sym (fold-step smallerOf 0 xs i.k i.least-u nan (omega arith)) ∙ i.invariant.1),
+      rw c.before.before.smaller-of2.ensures (sym (fold-step smallerOf 1 xs i.k i.least-v nan (omega arith)) ∙ i.invariant.2),
+      rw c.before.larger-of.ensures (sym (fold-step largerOf 0 xs i.k i.greatest-u nan (omega arith)) ∙ i.invariant.3),
+      rw c.larger-of2.ensures (sym (fold-step largerOf 1 xs i.k i.greatest-v nan (omega arith)) ∙ i.invariant.4),
     )
 
 returns : tie.Need-returns invariant-loop decreases-loop
@@ -82,10 +82,10 @@ unfolding boxOf
 returns c =
     let l = c.before.loop in
     let xs = c.before.before.before.args.points.now in
-    let lu = sym (fold_end smallerOf 0 xs l.k l.least-u (omega arith)) ∙ l.invariant.1 in
-    let lv = sym (fold_end smallerOf 1 xs l.k l.least-v (omega arith)) ∙ l.invariant.2 in
-    let gu = sym (fold_end largerOf 0 xs l.k l.greatest-u (omega arith)) ∙ l.invariant.3 in
-    let gv = sym (fold_end largerOf 1 xs l.k l.greatest-v (omega arith)) ∙ l.invariant.4 in
+    let lu = sym (fold-end smallerOf 0 xs l.k l.least-u (omega arith)) ∙ l.invariant.1 in
+    let lv = sym (fold-end smallerOf 1 xs l.k l.least-v (omega arith)) ∙ l.invariant.2 in
+    let gu = sym (fold-end largerOf 0 xs l.k l.greatest-u (omega arith)) ∙ l.invariant.3 in
+    let gv = sym (fold-end largerOf 1 xs l.k l.greatest-v (omega arith)) ∙ l.invariant.4 in
     rw (lu, lv, gu, gv)
 
 pub box-of-spec : {M : Type 1} → statement M
@@ -95,7 +95,7 @@ box-of-spec =
     invariant-loop
     decreases-loop
     loop-holds
-    mul_at
+    mul-at
     mul-u
     shared-slice-read-u
     add-v

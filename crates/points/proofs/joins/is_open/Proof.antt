@@ -9,7 +9,7 @@ use lib.Ieee.{nan}
 use lib.ListN.{drop, get_or}
 use Rattle.sheet.specs.Content.{point, pairs}
 use Rattle.points.specs.Joins.{ringOpen, every}
-use Rattle.points.proofs.Pairs.{pairs-step, pairs_end}
+use Rattle.points.proofs.Pairs.{pairs-step, pairs-end}
 use Rattle.points.proofs.Seams.{openFrom, open-start, open-wide, open-shut, open-along, open-end, no-points-open}
 use Rattle.points.proofs.joins.is_open.Statement.{statement}
 use Rattle.points.proofs.joins.is_open.Tie as tie
@@ -21,7 +21,7 @@ abbrev decreases-loop : tie.decreases-loop
 decreases-loop periodic scale-u scale-v more ring count u₀ v₀ left₀ k₀ u v left k = count - k
 
 returns : tie.Need-returns invariant-loop decreases-loop
-returns c = sym (no-points-open _ _ _ _ _ (pairs_end c.before.before.args.ring.now 0 (omega arith)))
+returns c = sym (no-points-open _ _ _ _ _ (pairs-end c.before.before.args.ring.now 0 (omega arith)))
 
 shared-slice-read-u : tie.Need-shared-slice-read-u invariant-loop decreases-loop
 shared-slice-read-u c = omega arith
@@ -34,8 +34,8 @@ loop-holds c =
     let l = c.before.before.before.before.args.ring.now in
     (omega arith, rw (pairs-step l 0 nan (omega arith)) (sym (open-start _ _ _ _ _ _)))
 
-mul_at : tie.Need-overflow-mul-at invariant-loop decreases-loop
-mul_at c = omega arith
+mul-at : tie.Need-overflow-mul-at invariant-loop decreases-loop
+mul-at c = omega arith
 
 mul-b-u : tie.Need-overflow-mul-b-u invariant-loop decreases-loop
 mul-b-u c = omega arith
@@ -90,7 +90,7 @@ returns-3 : tie.Need-returns-3 invariant-loop decreases-loop
 returns-3 c =
     let a = c.before.before.before.before.before.before.before.before.before.args in
     let i = c.before.before.before.before.loop in
-    c.is-wide2.ensures ∙ sym (open-end _ _ _ _ _ (point i.u i.v) i.left _ (pairs_end a.ring.now i.k (omega arith))) ∙ i.invariant.1
+    c.is-wide2.ensures ∙ sym (open-end _ _ _ _ _ (point i.u i.v) i.left _ (pairs-end a.ring.now i.k (omega arith))) ∙ i.invariant.1
 
 pub is-open-spec : {M : Type 1} → statement M
 is-open-spec =
@@ -102,7 +102,7 @@ is-open-spec =
     shared-slice-read-u
     shared-slice-read-v
     loop-holds
-    mul_at
+    mul-at
     mul-b-u
     shared-slice-read-b-u
     add-b-v

@@ -10,8 +10,8 @@ use Rattle.sheet.specs.Content.{pairs}
 use Rattle.answers.proofs.Over.{over-short}
 use Rattle.points.specs.Normalise.{normal}
 use Rattle.points.proofs.Flat.{changed-room}
-use Rattle.points.proofs.InPlace.{Written, none_written, point-written, over-written}
-use Rattle.points.proofs.Pairs.{pairs-step, pairs_end}
+use Rattle.points.proofs.InPlace.{Written, none-written, point-written, over-written}
+use Rattle.points.proofs.Pairs.{pairs-step, pairs-end}
 use Rattle.points.proofs.ring.normalise.Statement.{statement}
 use Rattle.points.proofs.ring.normalise.Tie as tie
 
@@ -28,10 +28,10 @@ returns c =
     sym (over-short _ a.out.now (omega (arith, changed-room (normal a.least-u a.least-v a.scale-u a.scale-v) a.points.now)))
 
 loop-holds : tie.Need-loop-init invariant-loop decreases-loop
-loop-holds c = (omega arith, omega arith, none_written _ _)
+loop-holds c = (omega arith, omega arith, none-written _ _)
 
-mul_at : tie.Need-overflow-mul-at invariant-loop decreases-loop
-mul_at c = omega arith
+mul-at : tie.Need-overflow-mul-at invariant-loop decreases-loop
+mul-at c = omega arith
 
 mul-u : tie.Need-overflow-mul-u invariant-loop decreases-loop
 mul-u c = omega arith
@@ -77,15 +77,15 @@ loop-again c =
     let change = map (normal a.least-u a.least-v a.scale-u a.scale-v) in
     (omega arith, omega arith, point-written l.loop.invariant.2 _ _ _ (ap change (pairs-step a.points.now l.loop.k nan (omega arith))) (omega arith))
 
-same_length : tie.Need-same-length invariant-loop decreases-loop
-same_length c = omega arith
+same-length : tie.Need-same-length invariant-loop decreases-loop
+same-length c = omega arith
 
 returns-2 : tie.Need-returns-2 invariant-loop decreases-loop
 returns-2 c =
     let l = c.before in
     let a = l.before.before.args in
     let change = normal a.least-u a.least-v a.scale-u a.scale-v in
-    over-written l.loop.invariant.2 (ap (map change) (pairs_end a.points.now l.loop.k (omega arith))) (omega (arith, changed-room change a.points.now)) (omega arith)
+    over-written l.loop.invariant.2 (ap (map change) (pairs-end a.points.now l.loop.k (omega arith))) (omega (arith, changed-room change a.points.now)) (omega arith)
 
 pub normalise-spec : {M : Type 1} → statement M
 normalise-spec =
@@ -95,7 +95,7 @@ normalise-spec =
     decreases-loop
     returns
     loop-holds
-    mul_at
+    mul-at
     mul-u
     shared-slice-read-u
     add-v
@@ -109,5 +109,5 @@ normalise-spec =
     add-k
     loop-less
     loop-again
-    same_length
+    same-length
     returns-2)

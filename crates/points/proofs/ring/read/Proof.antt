@@ -7,7 +7,7 @@ use borrow.Author.Rules.{rules}
 use lib.ListN.{drop, length-take, length-drop}
 use Rattle.sheet.specs.Content.{ringPoints}
 use Rattle.sheet.specs.Layout.{coedges}
-use Rattle.points.proofs.InPlace.{Written, none_written}
+use Rattle.points.proofs.InPlace.{Written, none-written}
 use Rattle.points.proofs.BlockPoints.{ring-end, coedge-written, ring-read, ring-unread}
 use Rattle.points.proofs.ring.read.Statement.{statement}
 use Rattle.points.proofs.ring.read.Tie as tie
@@ -31,7 +31,7 @@ returns : tie.Need-returns invariant-loop decreases-loop
 returns c = ring-unread c.before.before.before.before.args.block.now c.before.before.before.before.args.points.now (omega (arith, c.before.byte_at.ensures))
 
 loop-holds : tie.Need-loop-init invariant-loop decreases-loop
-loop-holds c = (omega arith, rw sub-zero (none_written _ _))
+loop-holds c = (omega arith, rw sub-zero (none-written _ _))
 
 mul-from : tie.Need-overflow-mul-from invariant-loop decreases-loop
 mul-from c = omega arith
@@ -72,8 +72,8 @@ loop-again c =
     let a = c.before.before.before.before.before.before.before.before.before.before.args in
     (omega arith, coedge-written a.block.now _ i.k _ i.invariant.1 (omega arith) (omega arith) c.before.before.read-coedge.ensures)
 
-same_length : tie.Need-same-length invariant-loop decreases-loop
-same_length c = omega arith
+same-length : tie.Need-same-length invariant-loop decreases-loop
+same-length c = omega arith
 
 returns-2 : tie.Need-returns-2 invariant-loop decreases-loop
 returns-2 c =
@@ -104,5 +104,5 @@ read_spec =
     add-k
     loop-less
     loop-again
-    same_length
+    same-length
     returns-2)

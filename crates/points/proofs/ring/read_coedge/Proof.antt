@@ -5,20 +5,20 @@ use native.Mathlib.Nat.{add-zero}
 use native.Mathlib.Omega.{arith}
 use borrow.Author.Rules.{rules}
 use lib.ListN.{drop, length-set}
-use Rattle.sheet.specs.Layout.{points as points_of}
-use Rattle.points.proofs.InPlace.{Written, none_written, point-written, all-filled}
+use Rattle.sheet.specs.Layout.{points as pointsOf}
+use Rattle.points.proofs.InPlace.{Written, none-written, point-written, all-filled}
 use Rattle.points.proofs.BlockPoints.{points-step, points-end}
 use Rattle.points.proofs.ring.read_coedge.Statement.{statement}
 use Rattle.points.proofs.ring.read_coedge.Tie as tie
 
 abbrev invariant-loop : tie.invariant-loop
-invariant-loop block at points₀ k₀ points k = (k ≤ 17) × Written points₀ points k (points_of (17 - k) (drop (at + 16 * k) block)) (points_of 17 (drop at block))
+invariant-loop block at points₀ k₀ points k = (k ≤ 17) × Written points₀ points k (pointsOf (17 - k) (drop (at + 16 * k) block)) (pointsOf 17 (drop at block))
 
 abbrev decreases-loop : tie.decreases-loop
 decreases-loop block at points₀ k₀ points k = 17 - k
 
 loop-holds : tie.Need-loop-init invariant-loop decreases-loop
-loop-holds c = (omega arith, rw add-zero (none_written _ _))
+loop-holds c = (omega arith, rw add-zero (none-written _ _))
 
 mul-to : tie.Need-overflow-mul-to invariant-loop decreases-loop
 mul-to c = omega arith
@@ -66,8 +66,8 @@ loop-again c =
     let e = points-step a.block.now a.at 17 i.k (omega arith) in
     (omega arith, point-written i.invariant.1 _ _ _ (rw (c.number2.ensures, c.before.number.ensures) e) (omega arith))
 
-same_length : tie.Need-same-length invariant-loop decreases-loop
-same_length c = omega arith
+same-length : tie.Need-same-length invariant-loop decreases-loop
+same-length c = omega arith
 
 returns : tie.Need-returns invariant-loop decreases-loop
 returns c = all-filled c.before.loop.invariant.1 (points-end _ 17 c.before.loop.k (omega arith)) (omega arith)
@@ -93,5 +93,5 @@ read-coedge-spec =
     add-k
     loop-less
     loop-again
-    same_length
+    same-length
     returns)

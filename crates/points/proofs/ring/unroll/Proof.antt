@@ -9,8 +9,8 @@ use lib.Ieee.{nan}
 use lib.ListN.{length, length-set}
 use Rattle.sheet.specs.Content.{point}
 use Rattle.points.specs.Unroll.{unrolled, movedRing}
-use Rattle.points.proofs.InPlace.{Written, none_written, points-changed}
-use Rattle.points.proofs.Pairs.{pairs_end}
+use Rattle.points.proofs.InPlace.{Written, none-written, points-changed}
+use Rattle.points.proofs.Pairs.{pairs-end}
 use Rattle.points.proofs.Unrolling.{after, first-unrolled, next-unrolled, all-unrolled}
 use Rattle.points.proofs.ring.unroll.Statement.{statement}
 use Rattle.points.proofs.ring.unroll.Tie as tie
@@ -25,7 +25,7 @@ returns : tie.Need-returns invariant-loop decreases-loop
 unfolding movedRing unrolled
 returns c =
     let a = c.before.before.args in
-    points-changed (movedRing a.kind a.phase) (none_written a.points.now _) (ap (movedRing a.kind a.phase) (pairs_end a.points.now 0 (omega arith))) (omega arith)
+    points-changed (movedRing a.kind a.phase) (none-written a.points.now _) (ap (movedRing a.kind a.phase) (pairs-end a.points.now 0 (omega arith))) (omega arith)
 
 slice-read-u : tie.Need-slice-read-u invariant-loop decreases-loop
 slice-read-u c = omega arith
@@ -44,8 +44,8 @@ loop-holds c =
     let a = c.before.before.before.before.before.args in
     (omega arith, simp length-set, first-unrolled a.points.now _ nan _ (omega arith))
 
-mul_at : tie.Need-overflow-mul-at invariant-loop decreases-loop
-mul_at c = omega arith
+mul-at : tie.Need-overflow-mul-at invariant-loop decreases-loop
+mul-at c = omega arith
 
 mul-moved-u : tie.Need-overflow-mul-moved-u invariant-loop decreases-loop
 mul-moved-u c = omega arith
@@ -97,8 +97,8 @@ loop-again c =
     let i = c.before.before.before.before.before.before.loop in
     (omega arith, i.invariant.1, next-unrolled _ _ i.u i.v nan i.invariant.2 (omega arith) c.before.wrapped-v2.ensures c.before.before.before.moved-u.ensures c.moved_v.ensures)
 
-same_length : tie.Need-same-length invariant-loop decreases-loop
-same_length c = c.before.loop.invariant.2.same ∙ simp length-set
+same-length : tie.Need-same-length invariant-loop decreases-loop
+same-length c = c.before.loop.invariant.2.same ∙ simp length-set
 
 returns-2 : tie.Need-returns-2 invariant-loop decreases-loop
 returns-2 c =
@@ -118,7 +118,7 @@ unroll-spec =
     wrapped-v-requires
     slice-write-points
     loop-holds
-    mul_at
+    mul-at
     mul-moved-u
     slice-read-moved-u
     moved-u-requires
@@ -135,5 +135,5 @@ unroll-spec =
     add-k
     loop-less
     loop-again
-    same_length
+    same-length
     returns-2)

@@ -11,8 +11,8 @@ use Rattle.sheet.specs.Content.{pairs}
 use Rattle.answers.proofs.Over.{over-short}
 use Rattle.points.specs.Written.{writtenPoint}
 use Rattle.points.proofs.Flat.{changed-room}
-use Rattle.points.proofs.InPlace.{Written, none_written, point-written, over-written}
-use Rattle.points.proofs.Pairs.{pairs-step, pairs_end}
+use Rattle.points.proofs.InPlace.{Written, none-written, point-written, over-written}
+use Rattle.points.proofs.Pairs.{pairs-step, pairs-end}
 use Rattle.points.proofs.written.write.Statement.{statement}
 use Rattle.points.proofs.written.write.Tie as tie
 
@@ -31,10 +31,10 @@ phase-angle-requires : tie.Need-phase-angle-requires invariant-loop decreases-lo
 phase-angle-requires c κs = search rules
 
 loop-holds : tie.Need-loop-init invariant-loop decreases-loop
-loop-holds c = (omega arith, omega arith, none_written _ _)
+loop-holds c = (omega arith, omega arith, none-written _ _)
 
-mul_at : tie.Need-overflow-mul-at invariant-loop decreases-loop
-mul_at c = omega arith
+mul-at : tie.Need-overflow-mul-at invariant-loop decreases-loop
+mul-at c = omega arith
 
 mul-out : tie.Need-overflow-mul-out invariant-loop decreases-loop
 mul-out c = omega arith
@@ -80,14 +80,14 @@ loop-again c =
     let change = map (writtenPoint a.phase) in
     (omega arith, omega arith, rw l.before.phase-angle.ensures (point-written l.loop.invariant.2 _ _ _ (ap change (pairs-step a.points.now l.loop.k nan (omega arith))) (omega arith)))
 
-same_length : tie.Need-same-length invariant-loop decreases-loop
-same_length c = omega arith
+same-length : tie.Need-same-length invariant-loop decreases-loop
+same-length c = omega arith
 
 returns-2 : tie.Need-returns-2 invariant-loop decreases-loop
 returns-2 c =
     let l = c.before in
     let a = l.before.before.before.before.before.args in
-    over-written l.loop.invariant.2 (ap (map (writtenPoint a.phase)) (pairs_end a.points.now l.loop.k (omega arith))) (omega (arith, changed-room (writtenPoint a.phase) a.points.now)) (omega arith)
+    over-written l.loop.invariant.2 (ap (map (writtenPoint a.phase)) (pairs-end a.points.now l.loop.k (omega arith))) (omega (arith, changed-room (writtenPoint a.phase) a.points.now)) (omega arith)
 
 pub write_spec : {M : Type 1} → statement M
 write_spec =
@@ -98,7 +98,7 @@ write_spec =
     returns
     phase-angle-requires
     loop-holds
-    mul_at
+    mul-at
     mul-out
     shared-slice-read-out
     mul-out-2
@@ -112,5 +112,5 @@ write_spec =
     add-k
     loop-less
     loop-again
-    same_length
+    same-length
     returns-2)

@@ -68,8 +68,8 @@ mul-list-3 c = omega arith
 slice-write-list-2 : tie.Need-slice-write-list-2 invariant-loop decreases-loop
 slice-write-list-2 c = omega arith
 
-same_length : tie.Need-same-length invariant-loop decreases-loop
-same_length c = simp length-set (omega arith)
+same-length : tie.Need-same-length invariant-loop decreases-loop
+same-length c = simp length-set (omega arith)
 
 returns : tie.Need-returns invariant-loop decreases-loop
 returns c =
@@ -100,5 +100,5 @@ insert-spec =
     loop-again
     mul-list-3
     slice-write-list-2
-    same_length
+    same-length
     returns)

@@ -10,7 +10,7 @@ use borrow.Author.Rules.{rules}
 use borrow.Author.Tests.{not-true, not-false}
 use lib.ListN.{length, take, drop, length-set}
 use Rattle.round_fallback.specs.Cylinder.{keptAfter, keptOf}
-use Rattle.round_fallback.proofs.Stretches.{kept-none, kept-first, kept_near, kept_next, kept-end}
+use Rattle.round_fallback.proofs.Stretches.{kept-none, kept-first, kept-near, kept-next, kept-end}
 use Rattle.round_fallback.proofs.cylinder.keep.Statement.{statement}
 use Rattle.round_fallback.proofs.cylinder.keep.Tie as tie
 
@@ -61,12 +61,12 @@ loop-again c =
     let l = c.before.before.before.before in
     let xs = l.before.before.before.before.before.args.sorted.now in
     ⊎_elim
-    (λ w. (rw w.3 (omega arith), omega arith, rw w.1 (simp length-set (omega arith)), rw (w.1, w.2, w.3) (sym (kept_next xs l.loop.auto l.loop.last l.loop.count l.loop.k (omega arith) (omega arith) (sym c.before.is-near.ensures ∙ not-true c.before.is-near.result w.0.taken)) ∙ l.loop.invariant.3)))
-    (λ w. (rw w.3 (omega arith), omega arith, rw w.1 l.loop.invariant.2, rw (w.1, w.2, w.3) (sym (kept_near xs l.loop.auto l.loop.last l.loop.count l.loop.k (omega arith) (sym c.before.is-near.ensures ∙ not-false c.before.is-near.result w.0.left)) ∙ l.loop.invariant.3)))
+    (λ w. (rw w.3 (omega arith), omega arith, rw w.1 (simp length-set (omega arith)), rw (w.1, w.2, w.3) (sym (kept-next xs l.loop.auto l.loop.last l.loop.count l.loop.k (omega arith) (omega arith) (sym c.before.is-near.ensures ∙ not-true c.before.is-near.result w.0.taken)) ∙ l.loop.invariant.3)))
+    (λ w. (rw w.3 (omega arith), omega arith, rw w.1 l.loop.invariant.2, rw (w.1, w.2, w.3) (sym (kept-near xs l.loop.auto l.loop.last l.loop.count l.loop.k (omega arith) (sym c.before.is-near.ensures ∙ not-false c.before.is-near.result w.0.left)) ∙ l.loop.invariant.3)))
     c.if2.branch
 
-same_length : tie.Need-same-length invariant-loop decreases-loop
-same_length c = omega arith
+same-length : tie.Need-same-length invariant-loop decreases-loop
+same-length c = omega arith
 
 returns-2 : tie.Need-returns-2 invariant-loop decreases-loop
 returns-2 c =
@@ -93,5 +93,5 @@ keep_spec =
     add-k
     loop-less
     loop-again
-    same_length
+    same-length
     returns-2)

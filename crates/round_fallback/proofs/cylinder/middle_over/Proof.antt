@@ -22,8 +22,8 @@ slice-aggregate-middle c = sym (length-take-le _ _ c.before.before.before.keep.e
 middle-requires : tie.Need-middle-requires
 middle-requires c κs = search rules
 
-same_length : tie.Need-same-length
-same_length c = search rules
+same-length : tie.Need-same-length
+same-length c = search rules
 
 same-length-2 : tie.Need-same-length-2
 same-length-2 c = search rules
@@ -45,6 +45,6 @@ middle-over-spec =
     slice-reshare-prefix-middle
     slice-aggregate-middle
     middle-requires
-    same_length
+    same-length
     same-length-2
     returns)

@@ -8,7 +8,7 @@ use native.Mathlib.Omega.{arith}
 use borrow.Author.Rules.{rules}
 use lib.ListN.{length, take, drop}
 use Rattle.round_fallback.specs.Cylinder.{insertOf}
-use Rattle.round_fallback.proofs.Sorting.{place_here, place-later, place-last}
+use Rattle.round_fallback.proofs.Sorting.{place-here, place-later, place-last}
 use Rattle.round_fallback.proofs.cylinder.place_of.Statement.{statement}
 use Rattle.round_fallback.proofs.cylinder.place_of.Tie as tie
 
@@ -34,7 +34,7 @@ returns : tie.Need-returns invariant-loop decreases-loop
 returns c =
     let l = c.before.before.before.before in
     let a = l.before.before.args in
-    (omega arith, l.loop.invariant.1 ∙ place_here a.x a.list.now l.loop.k (omega arith) (sym c.before.precedes.ensures ∙ c.if1.true))
+    (omega arith, l.loop.invariant.1 ∙ place-here a.x a.list.now l.loop.k (omega arith) (sym c.before.precedes.ensures ∙ c.if1.true))
 
 add-k : tie.Need-overflow-add-k invariant-loop decreases-loop
 add-k c = search rules

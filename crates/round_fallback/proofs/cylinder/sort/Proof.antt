@@ -54,8 +54,8 @@ loop-again c =
     let xs = l.before.before.before.args.angles.now in
     (omega arith, length_front l.loop.sorted i.new.1.0 (l.loop.k + 1) i.auto.1.0 ∙ l.loop.invariant.1, sort-step xs l.loop.sorted i.new.1.0 l.loop.k (omega arith) l.loop.invariant.1 i.auto.1.0 (i.ensures ∙ rw c.before.before.before.before.rem-tau.ensures) ∙ l.loop.invariant.2)
 
-same_length : tie.Need-same-length invariant-loop decreases-loop
-same_length c = omega arith
+same-length : tie.Need-same-length invariant-loop decreases-loop
+same-length c = omega arith
 
 returns : tie.Need-returns invariant-loop decreases-loop
 returns c =
@@ -78,5 +78,5 @@ sort-spec =
     insert-requires
     loop-less
     loop-again
-    same_length
+    same-length
     returns)

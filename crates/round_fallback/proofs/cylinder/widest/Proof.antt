@@ -9,7 +9,7 @@ use borrow.Author.Rules.{rules}
 use lib.Ieee.{nan}
 use lib.ListN.{length, get_or, drop, drop_of_length-le}
 use lib.Seq.{drop-cons}
-use Rattle.points.proofs.RingFolds.{foldRest, rest-step, rest_end}
+use Rattle.points.proofs.RingFolds.{foldRest, rest-step, rest-end}
 use Rattle.round_fallback.specs.Cylinder.{wider, widestOf}
 use Rattle.round_fallback.proofs.Stretches.{widest-none, widest-start}
 use Rattle.round_fallback.proofs.cylinder.widest.Statement.{statement}
@@ -58,7 +58,7 @@ returns-2 : tie.Need-returns-2 invariant-loop decreases-loop
 returns-2 c =
     let l = c.before.before in
     let xs = l.before.before.before.before.args.angles.now in
-    c.wider2.ensures ∙ sym (rest_end (wider (length xs)) (get_or xs 0 nan) l.loop.best l.loop.from (drop_of_length-le xs {i = l.loop.k} (omega arith))) ∙ l.loop.invariant.1
+    c.wider2.ensures ∙ sym (rest-end (wider (length xs)) (get_or xs 0 nan) l.loop.best l.loop.from (drop_of_length-le xs {i = l.loop.k} (omega arith))) ∙ l.loop.invariant.1
 
 pub widest-spec : {M : Type 1} → statement M
 widest-spec =

@@ -5,7 +5,7 @@ use Prim.Native.Nat.{ℕ, ◌+◌, ◌*◌, ◌-◌, ◌≤◌, ◌<◌}
 use native.Mathlib.Omega.{arith}
 use lib.ListN.{length, get_or, length-set, length-take, length-drop}
 use Rattle.search.specs.Copies.{Ready}
-use Rattle.search.proofs.Renewing.{part_of, same-room, renewed, noted-up, ready-next, all-renewed}
+use Rattle.search.proofs.Renewing.{part-of, same-room, renewed, noted-up, ready-next, all-renewed}
 use Rattle.search.proofs.copies.renew.Statement.{statement}
 use Rattle.search.proofs.copies.renew.Tie as tie
 
@@ -81,7 +81,7 @@ renew-one-requires c κs =
     let l = c.before.before.before.before.before.before.before in
     let x = l.before.before.before.before in
     let k = l.loop.k in
-    (x.requires.0, x.requires.1, simp (length-take, length-drop) (omega (arith, x.requires.2, l.loop.invariant.2)), λ m h t. l.loop.invariant.3 k (omega arith) m h t ∙ sym (part_of l.loop.copies k (omega (arith, x.requires.2, l.loop.invariant.2))))
+    (x.requires.0, x.requires.1, simp (length-take, length-drop) (omega (arith, x.requires.2, l.loop.invariant.2)), λ m h t. l.loop.invariant.3 k (omega arith) m h t ∙ sym (part-of l.loop.copies k (omega (arith, x.requires.2, l.loop.invariant.2))))
 
 mul-until : tie.Need-overflow-mul-until invariant-loop decreases-loop
 mul-until c = omega arith
@@ -112,8 +112,8 @@ loop-again c =
       noted-up l.loop.copies ys k new room x.args.period x.args.i x.args.list.now l.loop.until r.result noted l.loop.invariant.3 r.ensures.1 r.ensures.0 l.loop.invariant.4,
     )
 
-same_length : tie.Need-same-length invariant-loop decreases-loop
-same_length c = c.before.loop.invariant.1
+same-length : tie.Need-same-length invariant-loop decreases-loop
+same-length c = c.before.loop.invariant.1
 
 same-length-2 : tie.Need-same-length-2 invariant-loop decreases-loop
 same-length-2 c = c.before.loop.invariant.2
@@ -157,6 +157,6 @@ renew-spec =
     add-k
     loop-less
     loop-again
-    same_length
+    same-length
     same-length-2
     returns)

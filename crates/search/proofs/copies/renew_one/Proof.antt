@@ -1,7 +1,7 @@
 -- `search::copies::renew_one` leaves a copy that serves, or works it out and answers how far it serves.
 use mathlib.Core.Path.{sym, ◌∙◌}
 use Rattle.points.specs.Grid.{part}
-use Rattle.clearance.proofs.Laying.{put_all}
+use Rattle.clearance.proofs.Laying.{put-all}
 use Rattle.search.proofs.Renewing.{copy-put}
 use Rattle.search.proofs.ServingCopies.{ends-are}
 use borrow.Author.Rules.{rules}
@@ -26,14 +26,14 @@ served-requires c κs =
     let e = c.before.before.before.before.ends_at in
     (x.requires.0, x.requires.1, ends-are x.args.period x.args.s.a_u x.args.s.b_u c.before.before.before.before.before.part.ensures e.result e.ensures)
 
-same_length : tie.Need-same-length
-same_length c = search rules
+same-length : tie.Need-same-length
+same-length c = search rules
 
 returns-2 : tie.Need-returns-2
 returns-2 c =
     let x = c.before.before.before.before.before.before.before.before.before.args in
     let e = c.before.before.before.before.before.ends_at in
-    (c.served.ensures.0, λ m h k. c.served.ensures.1 x.s.a_v x.s.b_v m h k ∙ sym (copy-put x.period (part x.i) x.s.a_u x.s.a_v x.s.b_u x.s.b_v e.result _ (ends-are x.period x.s.a_u x.s.b_u c.before.before.before.before.before.before.part.ensures e.result e.ensures) (c.before.before.before.put.ensures ∙ put_all _ _ c.before.before.before.before.before.before.before.before.before.requires.2)))
+    (c.served.ensures.0, λ m h k. c.served.ensures.1 x.s.a_v x.s.b_v m h k ∙ sym (copy-put x.period (part x.i) x.s.a_u x.s.a_v x.s.b_u x.s.b_v e.result _ (ends-are x.period x.s.a_u x.s.b_u c.before.before.before.before.before.before.part.ensures e.result e.ensures) (c.before.before.before.put.ensures ∙ put-all _ _ c.before.before.before.before.before.before.before.before.before.requires.2)))
 
 pub renew-one-spec : {M : Type 1} → statement M
 renew-one-spec =
@@ -44,5 +44,5 @@ renew-one-spec =
     ends-at-requires
     put-requires
     served-requires
-    same_length
+    same-length
     returns-2)

@@ -5,7 +5,7 @@ use mathlib.Core.Bool.{Bool, true, false, not, true≢false}
 use Prim.Native.Nat.{◌+◌, ◌≤◌}
 use native.Mathlib.Omega.{arith}
 use Rattle.points.specs.Grid.{part}
-use Rattle.search.specs.Copies.{ends_at, sameEnds}
+use Rattle.search.specs.Copies.{endsAt, sameEnds}
 use Rattle.search.specs.declared.copies.CopyEnds.{CopyEnds}
 use Rattle.search.proofs.ServingCopies.{served-between, served-here}
 use Rattle.search.proofs.copies.served.Statement.{statement}
@@ -36,7 +36,7 @@ returns-2 : tie.Need-returns-2 invariant-loop decreases-loop
 returns-2 c =
     let x = c.before.before.before.before in
     let y = x.args in
-    (omega arith, served-between y.period y.a-u y.b-u (so _ _ c.before.before.before.is-regular.ensures c.before.before.if1.false) y.i 31 (ap (λ (e : CopyEnds). sameEnds e (ends_at y.period (part 31) y.a-u y.b-u)) (sym x.requires.2) ∙ sym c.before.is-served.ensures ∙ c.if2.true))
+    (omega arith, served-between y.period y.a-u y.b-u (so _ _ c.before.before.before.is-regular.ensures c.before.before.if1.false) y.i 31 (ap (λ (e : CopyEnds). sameEnds e (endsAt y.period (part 31) y.a-u y.b-u)) (sym x.requires.2) ∙ sym c.before.is-served.ensures ∙ c.if2.true))
 
 loop-holds : tie.Need-loop-init invariant-loop decreases-loop
 loop-holds c = omega arith
@@ -52,7 +52,7 @@ returns-3 c =
     let x = c.before.before.before.before.before.before.before.before.before in
     let y = x.args in
     let m = y.i + c.before.before.before.before.loop.step in
-    (omega arith, served-between y.period y.a-u y.b-u (so _ _ c.before.before.before.before.before.before.before.before.is-regular.ensures c.before.before.before.before.before.before.before.if1.false) y.i m (ap (λ (e : CopyEnds). sameEnds e (ends_at y.period (part m) y.a-u y.b-u)) (sym x.requires.2) ∙ sym c.before.is-served2.ensures ∙ c.if4.true))
+    (omega arith, served-between y.period y.a-u y.b-u (so _ _ c.before.before.before.before.before.before.before.before.is-regular.ensures c.before.before.before.before.before.before.before.if1.false) y.i m (ap (λ (e : CopyEnds). sameEnds e (endsAt y.period (part m) y.a-u y.b-u)) (sym x.requires.2) ∙ sym c.before.is-served2.ensures ∙ c.if4.true))
 
 loop-less : tie.Need-loop-smaller invariant-loop decreases-loop
 loop-less c = omega arith

@@ -49,9 +49,9 @@ module _ (period : Float) (ss : List Segment) (covered : List Bool) where
   unfolding chosenAmong clearanceAt copiesAt
   chosen-periodic = refl
 
-  chosen_plain : searchOf (coveredAt covered) (λ (i j : ℕ). hypotOfKey (leastKey (gridPoint i j) (inf false) ss)) ≡ chosenAmong false period ss covered
+  chosen-plain : searchOf (coveredAt covered) (λ (i j : ℕ). hypotOfKey (leastKey (gridPoint i j) (inf false) ss)) ≡ chosenAmong false period ss covered
   unfolding chosenAmong clearanceAt copiesAt
-  chosen_plain = refl
+  chosen-plain = refl
 
 slice-aggregate-search-copies : tie.Need-slice-aggregate-search-copies
 slice-aggregate-search-copies c = sym (first-length c.before.before)
@@ -76,7 +76,7 @@ returns-2 : tie.Need-returns-2
 returns-2 c =
     let x = c.before.before.before.before.before.before.args in
     c.search-plain.ensures
-    ∙ chosen_plain x.period (segmentsIn (take c.before.before.before.if1.n x.list.now)) x.covered.now
+    ∙ chosen-plain x.period (segmentsIn (take c.before.before.before.if1.n x.list.now)) x.covered.now
     ∙ ap₂ (λ (t : Bool) (xs : List Float). chosenAmong t x.period (segmentsIn xs) x.covered.now) (sym c.before.before.if2.false) (taken c.before.before.before).same
 
 pub choose_spec : {M : Type 1} → statement M

@@ -102,8 +102,8 @@ loop-again c =
       rw v.is (sym (column-step f g x.i l.found.best l.j (omega arith)) ∙ l.invariant.5),
     )
 
-same_length : tie.Need-same-length invariant-loop decreases-loop
-same_length c = c.before.loop.invariant.4 ∙ sym c.before.before.before.before.before.requires.4
+same-length : tie.Need-same-length invariant-loop decreases-loop
+same-length c = c.before.loop.invariant.4 ∙ sym c.before.before.before.before.before.requires.4
 
 returns : tie.Need-returns invariant-loop decreases-loop
 returns c =
@@ -131,5 +131,5 @@ column-spec =
     add-j
     loop-less
     loop-again
-    same_length
+    same-length
     returns)

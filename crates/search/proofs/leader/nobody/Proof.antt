@@ -5,7 +5,7 @@ use Rattle.search.proofs.leader.nobody.Statement.{statement}
 use Rattle.search.proofs.leader.nobody.Tie as tie
 
 returns : tie.Need-returns
-returns c = (record { is_key = zero-key; clearanceIs = sym hypot-of-zero }, refl)
+returns c = (record { isKey = zero-key; clearanceIs = sym hypot-of-zero }, refl)
 
 pub nobody-spec : {M : Type 1} → statement M
 nobody-spec = tie.close (tie.spec returns)

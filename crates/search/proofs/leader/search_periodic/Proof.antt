@@ -86,8 +86,8 @@ loop-again c =
       ap (λ (b : Candidate). searchFrom f g b (l.i + 1)) (r.ensures.1 ∙ column-same f (clearTo copies) g l.i same l.found.best) ∙ sym (search-step f g l.found.best l.i (omega (arith, c.before.before.before.before.before.before.before.before.before.before.before.loop-test.true))) ∙ l.invariant.8,
     )
 
-same_length : tie.Need-same-length invariant-loop decreases-loop
-same_length c = c.before.before.loop.invariant.5
+same-length : tie.Need-same-length invariant-loop decreases-loop
+same-length c = c.before.before.loop.invariant.5
 
 same-length-2 : tie.Need-same-length-2 invariant-loop decreases-loop
 same-length-2 c = c.before.before.loop.invariant.6
@@ -114,6 +114,6 @@ search-periodic-spec =
     add-i
     loop-less
     loop-again
-    same_length
+    same-length
     same-length-2
     returns)

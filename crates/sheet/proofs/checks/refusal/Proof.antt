@@ -5,7 +5,7 @@ use mathlib.Core.Path.{◌≡◌, sym, ap, ◌∙◌}
 use mathlib.Core.Bool.{cond, ◌||◌}
 use mathlib.Core.List.{List, ◌++◌}
 use Prim.Native.Nat.{ℕ}
-use Rattle.answers.specs.Lists.{any_of}
+use Rattle.answers.specs.Lists.{anyOf}
 use Rattle.sheet.specs.Layout.{kind, headSize, plane, sheetOf}
 use Rattle.sheet.specs.Checks.{versionWrong, kindWrong, countWrong, blocksWrong, coedgesWrong, planeWrong, ringWrong, layoutChecks, contentChecks}
 use Rattle.answers.specs.Outcome.{first}
@@ -18,7 +18,7 @@ abbrev whole : List ℕ → ℕ
 whole s = first (layoutChecks s ++ contentChecks (sheetOf s))
 
 abbrev content : List ℕ → ℕ
-content s = cond (coedgesWrong (ringsOf s)) 6 (cond (planeWrong (plane s) || any_of ringWrong (ringsOf s)) 7 0)
+content s = cond (coedgesWrong (ringsOf s)) 6 (cond (planeWrong (plane s) || anyOf ringWrong (ringsOf s)) 7 0)
 
 -- the table where the checks so far have passed
 from-1 : (c : tie.Else1) → let s = c.before.before.before.args.s.now in whole s ≡ cond (versionWrong s) 2 (cond (kindWrong s) 3 (cond (countWrong s) 4 (cond (blocksWrong s) 5 (content s))))
@@ -40,10 +40,10 @@ from-5 c = rw (from-4 c.before.before, ← c.before.blocks-wrong.ensures, c.if5.
 head-is : (c : tie.After-byte-at2) → c.before.head-size.result ≡ headSize (kind c.before.before.before.before.before.before.before.before.before.before.before.before.before.before.args.s.now)
 head-is c = c.before.head-size.ensures ∙ ap headSize c.before.before.byte_at.ensures
 
-from-6 : (c : tie.Else6) → let s = c.before.before.before.before.before.before.before.before.before.before.before.before.before.before.before.before.args.s.now in whole s ≡ cond (planeWrong (plane s) || any_of ringWrong (ringsOf s)) 7 0
+from-6 : (c : tie.Else6) → let s = c.before.before.before.before.before.before.before.before.before.before.before.before.before.before.before.before.args.s.now in whole s ≡ cond (planeWrong (plane s) || anyOf ringWrong (ringsOf s)) 7 0
 from-6 c = rw (from-5 c.before.before.before.before.before, ← head-is c.before.before, ← c.before.before.byte-at2.ensures, ← c.before.coedges-wrong.ensures, c.if6.false)
 
-from-7 : (c : tie.Else7) → let s = c.before.before.before.before.before.before.before.before.before.before.before.before.before.before.before.before.before.before.args.s.now in whole s ≡ cond (any_of ringWrong (ringsOf s)) 7 0
+from-7 : (c : tie.Else7) → let s = c.before.before.before.before.before.before.before.before.before.before.before.before.before.before.before.before.before.before.args.s.now in whole s ≡ cond (anyOf ringWrong (ringsOf s)) 7 0
 from-7 c = rw (from-6 c.before.before, ← c.before.plane-wrong.ensures, c.if7.false)
 
 length-wrong-requires : tie.Need-length-wrong-requires

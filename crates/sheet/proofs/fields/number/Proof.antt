@@ -3,8 +3,8 @@
 use mathlib.Core.Path.{sym, ap, ◌∙◌}
 use native.Mathlib.Omega.{arith}
 use lib.ListN.{drop, length-drop}
-use Rattle.sheet.specs.Layout.{number_of}
-use Rattle.sheet.proofs.Bytes.{two-words, number_short, number-whole}
+use Rattle.sheet.specs.Layout.{numberOf}
+use Rattle.sheet.proofs.Bytes.{two-words, number-short, number-whole}
 use borrow.Author.Rules.{rules}
 use Rattle.sheet.proofs.fields.number.Statement.{statement}
 use Rattle.sheet.proofs.fields.number.Tie as tie
@@ -12,7 +12,7 @@ use Rattle.sheet.proofs.fields.number.Tie as tie
 returns : tie.Need-returns
 returns c =
     let s = c.before.before.args in
-    sym (number_short (drop s.at s.s.now) (simp length-drop (omega arith)))
+    sym (number-short (drop s.at s.s.now) (simp length-drop (omega arith)))
 
 sub-if2 : tie.Need-overflow-sub-if2
 sub-if2 c = search rules
@@ -20,7 +20,7 @@ sub-if2 c = search rules
 returns-2 : tie.Need-returns-2
 returns-2 c =
     let s = c.before.before.before.args in
-    sym (number_short (drop s.at s.s.now) (simp length-drop (omega arith)))
+    sym (number-short (drop s.at s.s.now) (simp length-drop (omega arith)))
 
 word-requires : tie.Need-word-requires
 word-requires c κs = search rules
@@ -44,7 +44,7 @@ returns-3 : tie.Need-returns-3
 returns-3 c =
     let s = c.before.before.before.before.before.before.args in
     c.float.ensures
-    ∙ ap number_of (omega (arith, two-words s.s.now s.at (omega arith)))
+    ∙ ap numberOf (omega (arith, two-words s.s.now s.at (omega arith)))
     ∙ sym (number-whole (drop s.at s.s.now) (simp length-drop (omega arith)))
 
 pub number-spec : {M : Type 1} → statement M

@@ -1,7 +1,7 @@
 -- `sheet::fields::word` is the four bytes at the place, big-endian: each byte is below 256, so no part wraps, and the
 -- law of four bytes says the rest.
 use native.Mathlib.Omega.{arith}
-use Rattle.sheet.proofs.Bytes.{word_at}
+use Rattle.sheet.proofs.Bytes.{word-at}
 use borrow.Author.Rules.{rules}
 use Rattle.sheet.proofs.fields.word.Statement.{statement}
 use Rattle.sheet.proofs.fields.word.Tie as tie
@@ -15,8 +15,8 @@ wide-requires c κs = search rules
 mul-result : tie.Need-overflow-mul-result
 mul-result c = search rules
 
-add_wide : tie.Need-overflow-add-wide
-add_wide c = search rules
+add-wide : tie.Need-overflow-add-wide
+add-wide c = search rules
 
 shared-slice-read-wide-2 : tie.Need-shared-slice-read-wide-2
 shared-slice-read-wide-2 c = search rules
@@ -60,7 +60,7 @@ add-result-3 c = search rules
 returns : tie.Need-returns
 returns c =
     let s = c.before.before.before.before.before.before.before.before.before in
-    (omega (arith, word_at s.args.s.now s.args.at s.requires), omega arith)
+    (omega (arith, word-at s.args.s.now s.args.at s.requires), omega arith)
 
 pub word-spec : {M : Type 1} → statement M
 word-spec =
@@ -69,7 +69,7 @@ word-spec =
     shared-slice-read-wide
     wide-requires
     mul-result
-    add_wide
+    add-wide
     shared-slice-read-wide-2
     wide-requires-2
     mul-result-2

@@ -7,17 +7,17 @@ use Prim.Native.Nat.{◌+◌, ◌-◌, ◌*◌, ◌≤◌}
 use native.Mathlib.Nat.{sub-zero, add-zero}
 use native.Mathlib.Omega.{arith}
 use lib.ListN.{drop}
-use Rattle.answers.specs.Lists.{any_of}
+use Rattle.answers.specs.Lists.{anyOf}
 use Rattle.sheet.specs.Layout.{numbers}
 use Rattle.answers.specs.Limits.{beyond}
-use Rattle.answers.proofs.AnyOf.{any_found, any-passed, any_none}
+use Rattle.answers.proofs.AnyOf.{any-found, any-passed, any-none}
 use Rattle.sheet.proofs.Walks.{numbers-step, numbers-end}
 use borrow.Author.Rules.{rules}
 use Rattle.sheet.proofs.walk.any_beyond.Statement.{statement}
 use Rattle.sheet.proofs.walk.any_beyond.Tie as tie
 
 abbrev invariant-loop : tie.invariant-loop
-invariant-loop limit s from count k₀ k = (k ≤ count) × (any_of (beyond limit) (numbers (count - k) (drop (from + 8 * k) s)) ≡ any_of (beyond limit) (numbers count (drop from s)))
+invariant-loop limit s from count k₀ k = (k ≤ count) × (anyOf (beyond limit) (numbers (count - k) (drop (from + 8 * k) s)) ≡ anyOf (beyond limit) (numbers count (drop from s)))
 
 abbrev decreases-loop : tie.decreases-loop
 decreases-loop limit s from count k₀ k = count - k
@@ -42,7 +42,7 @@ returns c =
     let l = c.before.before.before.before in
     let a = l.before.before.args in
     let t = sym (c.before.is-beyond.ensures ∙ ap (beyond a.limit) c.before.before.number.ensures) ∙ c.if1.true in
-    sym (any_found (beyond a.limit) (numbers-step a.s.now a.from a.count l.loop.k c.before.before.before.loop-test.true) t) ∙ l.loop.invariant.1
+    sym (any-found (beyond a.limit) (numbers-step a.s.now a.from a.count l.loop.k c.before.before.before.loop-test.true) t) ∙ l.loop.invariant.1
 
 add-k : tie.Need-overflow-add-k invariant-loop decreases-loop
 add-k c = search rules
@@ -61,7 +61,7 @@ returns-2 : tie.Need-returns-2 invariant-loop decreases-loop
 returns-2 c =
     let l = c.before in
     let a = l.before.before.args in
-    sym (any_none (beyond a.limit) (numbers-end (drop (a.from + 8 * l.loop.k) a.s.now) a.count l.loop.k c.loop-test.false)) ∙ l.loop.invariant.1
+    sym (any-none (beyond a.limit) (numbers-end (drop (a.from + 8 * l.loop.k) a.s.now) a.count l.loop.k c.loop-test.false)) ∙ l.loop.invariant.1
 
 pub any-beyond-spec : {M : Type 1} → statement M
 any-beyond-spec =

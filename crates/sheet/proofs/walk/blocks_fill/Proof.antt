@@ -7,7 +7,7 @@ use native.Mathlib.Nat.{sub-zero}
 use native.Mathlib.Omega.{arith}
 use lib.ListN.{length, drop}
 use Rattle.sheet.specs.Checks.{fill}
-use Rattle.sheet.proofs.Walks.{fill_step, fill-short, fill_end}
+use Rattle.sheet.proofs.Walks.{fill-step, fill-short, fill-end}
 use borrow.Author.Rules.{rules}
 use Rattle.sheet.proofs.walk.blocks_fill.Statement.{statement}
 use Rattle.sheet.proofs.walk.blocks_fill.Tie as tie
@@ -34,8 +34,8 @@ returns c =
     let short = rw c.before.block_size.ensures at c.if1.true in
     sym (fill-short a.s.now l.loop.at a.count l.loop.k c.before.before.loop-test.true short) ∙ l.loop.invariant.2
 
-add_at : tie.Need-overflow-add-at invariant-loop decreases-loop
-add_at c = search rules
+add-at : tie.Need-overflow-add-at invariant-loop decreases-loop
+add-at c = search rules
 
 add-k : tie.Need-overflow-add-k invariant-loop decreases-loop
 add-k c = search rules
@@ -50,14 +50,14 @@ loop-again c =
     let room = rw c.before.block_size.ensures at c.if1.false in (
       omega arith,
       omega arith,
-      rw c.before.block_size.ensures (sym (fill_step a.s.now l.loop.at a.count l.loop.k c.before.before.loop-test.true room) ∙ l.loop.invariant.2),
+      rw c.before.block_size.ensures (sym (fill-step a.s.now l.loop.at a.count l.loop.k c.before.before.loop-test.true room) ∙ l.loop.invariant.2),
     )
 
 returns-2 : tie.Need-returns-2 invariant-loop decreases-loop
 returns-2 c =
     let l = c.before in
     let a = l.before.before.args in
-    sym (fill_end a.s.now l.loop.at a.count l.loop.k c.loop-test.false l.loop.invariant.0) ∙ l.loop.invariant.2
+    sym (fill-end a.s.now l.loop.at a.count l.loop.k c.loop-test.false l.loop.invariant.0) ∙ l.loop.invariant.2
 
 pub blocks-fill-spec : {M : Type 1} → statement M
 blocks-fill-spec =
@@ -69,7 +69,7 @@ blocks-fill-spec =
     block-size-requires
     sub-if1
     returns
-    add_at
+    add-at
     add-k
     loop-less
     loop-again

@@ -11,7 +11,7 @@ use lib.ListN.{drop}
 use Rattle.sheet.specs.Layout.{ring, cut}
 use Rattle.sheet.specs.Checks.{coedgesWrong}
 use Rattle.sheet.proofs.Blocks.{block-size-at}
-use Rattle.sheet.proofs.Walks.{wrongFrom, wrong_start, wrong-found, wrong-passed, wrong-end}
+use Rattle.sheet.proofs.Walks.{wrongFrom, wrong-start, wrong-found, wrong-passed, wrong-end}
 use borrow.Author.Rules.{rules}
 use Rattle.sheet.proofs.walk.coedges_wrong.Statement.{statement}
 use Rattle.sheet.proofs.walk.coedges_wrong.Tie as tie
@@ -23,7 +23,7 @@ abbrev decreases-loop : tie.decreases-loop
 decreases-loop s from count at₀ total₀ k₀ at total k = count - k
 
 loop-holds : tie.Need-loop-init invariant-loop decreases-loop
-loop-holds c = (omega arith, omega arith, omega arith, simp sub-zero (wrong_start (map ring (cut c.before.args.count (drop c.before.args.from c.before.args.s.now)))))
+loop-holds c = (omega arith, omega arith, omega arith, simp sub-zero (wrong-start (map ring (cut c.before.args.count (drop c.before.args.from c.before.args.s.now)))))
 
 byte-at-requires : tie.Need-byte-at-requires invariant-loop decreases-loop
 byte-at-requires c κs = search rules
@@ -38,14 +38,14 @@ returns c =
     let none = sym c.before.byte_at.ensures ∙ c.if1.true in
     sym (wrong-found a.s.now l.loop.at a.count l.loop.k l.loop.total c.before.before.loop-test.true none) ∙ l.loop.invariant.3
 
-add_total : tie.Need-overflow-add-total invariant-loop decreases-loop
-add_total c = search rules
+add-total : tie.Need-overflow-add-total invariant-loop decreases-loop
+add-total c = search rules
 
 block-size-requires : tie.Need-block-size-requires invariant-loop decreases-loop
 block-size-requires c κs = search rules
 
-add_at : tie.Need-overflow-add-at invariant-loop decreases-loop
-add_at c =
+add-at : tie.Need-overflow-add-at invariant-loop decreases-loop
+add-at c =
     let l = c.before.before.before.before in
     omega (arith, block-size-at l.before.before.args.s.now l.loop.at)
 
@@ -84,9 +84,9 @@ coedges-wrong-spec =
     byte-at-requires
     cast-coedges
     returns
-    add_total
+    add-total
     block-size-requires
-    add_at
+    add-at
     add-k
     loop-less
     loop-again

@@ -6,17 +6,17 @@ use Prim.Native.Nat.{◌+◌, ◌-◌, ◌*◌, ◌≤◌}
 use native.Mathlib.Nat.{sub-zero}
 use native.Mathlib.Omega.{arith}
 use lib.ListN.{drop}
-use Rattle.answers.specs.Lists.{any_of}
+use Rattle.answers.specs.Lists.{anyOf}
 use Rattle.sheet.specs.Layout.{coedges, ring}
 use Rattle.sheet.specs.Checks.{coedgeWrong, ringWrong}
-use Rattle.answers.proofs.AnyOf.{any_found, any-passed, any_none}
+use Rattle.answers.proofs.AnyOf.{any-found, any-passed, any-none}
 use Rattle.sheet.proofs.Walks.{coedges-step, coedges-end}
 use borrow.Author.Rules.{rules}
 use Rattle.sheet.proofs.walk.ring_wrong.Statement.{statement}
 use Rattle.sheet.proofs.walk.ring_wrong.Tie as tie
 
 abbrev invariant-loop : tie.invariant-loop
-invariant-loop block count k₀ k = (count ≤ 255) × (k ≤ count) × (any_of coedgeWrong (coedges (count - k) (drop (1 + 280 * k) block)) ≡ ringWrong (ring block))
+invariant-loop block count k₀ k = (count ≤ 255) × (k ≤ count) × (anyOf coedgeWrong (coedges (count - k) (drop (1 + 280 * k) block)) ≡ ringWrong (ring block))
 
 abbrev decreases-loop : tie.decreases-loop
 decreases-loop block count k₀ k = count - k
@@ -45,7 +45,7 @@ returns c =
     let l = c.before.before.before in
     let a = l.before.before.before.args in
     let t = sym c.before.coedge-wrong.ensures ∙ c.if1.true in
-    sym (any_found coedgeWrong (coedges-step a.block.now 1 l.before.byte_at.result l.loop.k c.before.before.loop-test.true) t) ∙ l.loop.invariant.2
+    sym (any-found coedgeWrong (coedges-step a.block.now 1 l.before.byte_at.result l.loop.k c.before.before.loop-test.true) t) ∙ l.loop.invariant.2
 
 add-k : tie.Need-overflow-add-k invariant-loop decreases-loop
 add-k c = search rules
@@ -64,7 +64,7 @@ returns-2 : tie.Need-returns-2 invariant-loop decreases-loop
 returns-2 c =
     let l = c.before in
     let a = l.before.before.before.args in
-    sym (any_none coedgeWrong (coedges-end (drop (1 + 280 * l.loop.k) a.block.now) l.before.byte_at.result l.loop.k c.loop-test.false)) ∙ l.loop.invariant.2
+    sym (any-none coedgeWrong (coedges-end (drop (1 + 280 * l.loop.k) a.block.now) l.before.byte_at.result l.loop.k c.loop-test.false)) ∙ l.loop.invariant.2
 
 pub ring-wrong-spec : {M : Type 1} → statement M
 ring-wrong-spec =

@@ -8,17 +8,17 @@ use Prim.Native.Nat.{ℕ, ◌+◌, ◌-◌, ◌≤◌}
 use native.Mathlib.Nat.{sub-zero}
 use native.Mathlib.Omega.{arith}
 use lib.ListN.{length, take, drop}
-use Rattle.answers.specs.Lists.{any_of}
+use Rattle.answers.specs.Lists.{anyOf}
 use Rattle.sheet.specs.Layout.{blockSize, cut, ring}
 use Rattle.sheet.specs.Checks.{fill, ringWrong}
-use Rattle.answers.proofs.AnyOf.{any_found, any-passed, any_none}
-use Rattle.sheet.proofs.Walks.{rings-step, rings-end, fill_step, fill-room}
+use Rattle.answers.proofs.AnyOf.{any-found, any-passed, any-none}
+use Rattle.sheet.proofs.Walks.{rings-step, rings-end, fill-step, fill-room}
 use borrow.Author.Rules.{rules}
 use Rattle.sheet.proofs.walk.rings_wrong.Statement.{statement}
 use Rattle.sheet.proofs.walk.rings_wrong.Tie as tie
 
 abbrev invariant-loop : tie.invariant-loop
-invariant-loop s from count at₀ k₀ at k = (at ≤ length s) × (k ≤ count) × (fill (count - k) (drop at s) ≡ true) × (any_of ringWrong (map ring (cut (count - k) (drop at s))) ≡ any_of ringWrong (map ring (cut count (drop from s))))
+invariant-loop s from count at₀ k₀ at k = (at ≤ length s) × (k ≤ count) × (fill (count - k) (drop at s) ≡ true) × (anyOf ringWrong (map ring (cut (count - k) (drop at s))) ≡ anyOf ringWrong (map ring (cut count (drop from s))))
 
 abbrev decreases-loop : tie.decreases-loop
 decreases-loop s from count at₀ k₀ at k = count - k
@@ -65,7 +65,7 @@ returns : tie.Need-returns invariant-loop decreases-loop
 returns c =
     let l = c.before.before.before.before.before in
     let a = l.before.before.args in
-    sym (any_found ringWrong (rings-step a.s.now l.loop.at a.count l.loop.k c.before.before.before.before.loop-test.true) (sym (verdict c.before) ∙ c.if1.true)) ∙ l.loop.invariant.3
+    sym (any-found ringWrong (rings-step a.s.now l.loop.at a.count l.loop.k c.before.before.before.before.loop-test.true) (sym (verdict c.before) ∙ c.if1.true)) ∙ l.loop.invariant.3
 
 add-k : tie.Need-overflow-add-k invariant-loop decreases-loop
 add-k c = search rules
@@ -82,7 +82,7 @@ loop-again c =
     let size = c.before.before.before.block_size.ensures in (
       omega arith,
       omega arith,
-      rw size (sym (fill_step a.s.now l.loop.at a.count l.loop.k turn room) ∙ l.loop.invariant.2),
+      rw size (sym (fill-step a.s.now l.loop.at a.count l.loop.k turn room) ∙ l.loop.invariant.2),
       rw size (sym (any-passed ringWrong (rings-step a.s.now l.loop.at a.count l.loop.k turn) (sym (verdict c.before) ∙ c.if1.false)) ∙ l.loop.invariant.3),
     )
 
@@ -90,7 +90,7 @@ returns-2 : tie.Need-returns-2 invariant-loop decreases-loop
 returns-2 c =
     let l = c.before in
     let a = l.before.before.args in
-    sym (any_none ringWrong (rings-end (drop l.loop.at a.s.now) a.count l.loop.k c.loop-test.false)) ∙ l.loop.invariant.3
+    sym (any-none ringWrong (rings-end (drop l.loop.at a.s.now) a.count l.loop.k c.loop-test.false)) ∙ l.loop.invariant.3
 
 pub rings-wrong-spec : {M : Type 1} → statement M
 rings-wrong-spec =

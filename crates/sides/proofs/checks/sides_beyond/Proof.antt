@@ -4,7 +4,7 @@ use mathlib.Core.Path.{◌≡◌}
 use mathlib.Core.Bool.{◌||◌}
 use native.Mathlib.Omega.{arith}
 use Rattle.sides.specs.Sides.{sidesBeyond}
-use Rattle.sides.proofs.BySide.{sideAt, by_side}
+use Rattle.sides.proofs.BySide.{sideAt, by-side}
 use borrow.Author.Rules.{rules}
 use Rattle.sides.proofs.checks.sides_beyond.Statement.{statement}
 use Rattle.sides.proofs.checks.sides_beyond.Tie as tie
@@ -56,7 +56,7 @@ side-beyond-requires-3 c κs = search rules
 
 -- the definition, from side to side
 three : (s : tie.Start) → let a = s.args in sidesBeyond a.t1 a.t2 a.t3 a.t4 ≡ (sideAt a.t1 a.t2 a.t3 a.t4 0 || sideAt a.t1 a.t2 a.t3 a.t4 1 || sideAt a.t1 a.t2 a.t3 a.t4 2)
-three s = by_side s.args.t1 s.args.t2 s.args.t3 s.args.t4 (omega arith) (omega arith) (omega arith) (omega arith)
+three s = by-side s.args.t1 s.args.t2 s.args.t3 s.args.t4 (omega arith) (omega arith) (omega arith) (omega arith)
 
 returns : tie.Need-returns
 returns c = rw (three c.before.before.before.before.before.before, ← c.before.side-beyond.ensures, c.if1.true)

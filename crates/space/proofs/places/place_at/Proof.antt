@@ -1,7 +1,7 @@
 -- `space::places::place_at` is `placeAt`: its first number stands within the list, or none of the three does.
 use Prim.Native.Nat.{◌+◌}
 use native.Mathlib.Omega.{arith}
-use Rattle.space.proofs.Triples.{past_end}
+use Rattle.space.proofs.Triples.{past-end}
 use borrow.Author.Rules.{rules}
 use Rattle.space.proofs.places.place_at.Statement.{statement}
 use Rattle.space.proofs.places.place_at.Tie as tie
@@ -29,7 +29,7 @@ returns : tie.Need-returns
 returns c = rw (c.number-at2.ensures, c.before.number_at.ensures)
 
 returns-2 : tie.Need-returns-2
-returns-2 c = let xs = c.before.before.args.list.now in rw (← past_end xs {n = c.before.before.args.at} (omega arith), ← past_end xs {n = c.before.before.args.at + 1} (omega arith), ← past_end xs {n = c.before.before.args.at + 2} (omega arith))
+returns-2 c = let xs = c.before.before.args.list.now in rw (← past-end xs {n = c.before.before.args.at} (omega arith), ← past-end xs {n = c.before.before.args.at + 1} (omega arith), ← past-end xs {n = c.before.before.args.at + 2} (omega arith))
 
 pub place-at-spec : {M : Type 1} → statement M
 place-at-spec =

@@ -8,8 +8,8 @@ use Rattle.space.proofs.vectors.along.Tie as tie
 enum-known-v : tie.Need-enum-known-v
 enum-known-v c = search rules
 
-enum_told : tie.Need-enum-told
-enum_told c = search rules
+enum-told : tie.Need-enum-told
+enum-told c = search rules
 
 returns : tie.Need-returns
 unfolding alongOf
@@ -17,7 +17,7 @@ returns c = sym (ap alongOf c.before.v.given.1)
 
 returns-2 : tie.Need-returns-2
 unfolding alongOf
-returns-2 c = sym (ap alongOf c.enum_told.given.1)
+returns-2 c = sym (ap alongOf c.enum-told.given.1)
 
 pub along-spec : {M : Type 1} → statement M
-along-spec = tie.close (tie.spec enum-known-v enum_told returns returns-2)
+along-spec = tie.close (tie.spec enum-known-v enum-told returns returns-2)

@@ -1,11 +1,11 @@
 -- `space::vectors::cross` is `cross_of`, operation by operation.
 use mathlib.Core.Path.{refl}
-use Rattle.space.specs.Vectors.{cross_of}
+use Rattle.space.specs.Vectors.{crossOf}
 use Rattle.space.proofs.vectors.cross.Statement.{statement}
 use Rattle.space.proofs.vectors.cross.Tie as tie
 
 returns : tie.Need-returns
-unfolding cross_of
+unfolding crossOf
 returns c = refl
 
 pub cross-spec : {M : Type 1} → statement M

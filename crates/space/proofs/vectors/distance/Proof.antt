@@ -1,5 +1,5 @@
 -- `space::vectors::distance` is `distance_of`: the leaves' hypotenuse of the three differences.
-use Rattle.space.specs.Vectors.{distance_of}
+use Rattle.space.specs.Vectors.{distanceOf}
 use borrow.Author.Rules.{rules}
 use Rattle.space.proofs.vectors.distance.Statement.{statement}
 use Rattle.space.proofs.vectors.distance.Tie as tie
@@ -9,7 +9,7 @@ hypot3-requires : tie.Need-hypot3-requires
 hypot3-requires c κs = search rules
 
 returns : tie.Need-returns
-unfolding distance_of
+unfolding distanceOf
 returns c = c.hypot3.ensures
 
 pub distance-spec : {M : Type 1} → statement M

@@ -1,5 +1,5 @@
 -- `space::vectors::length` is `length_of`: the root of the vector dotted with itself.
-use Rattle.space.specs.Vectors.{length_of}
+use Rattle.space.specs.Vectors.{lengthOf}
 use borrow.Author.Rules.{rules}
 use Rattle.space.proofs.vectors.length.Statement.{statement}
 use Rattle.space.proofs.vectors.length.Tie as tie
@@ -13,7 +13,7 @@ root-requires : tie.Need-root-requires
 root-requires c κs = search rules
 
 returns : tie.Need-returns
-unfolding length_of
+unfolding lengthOf
 returns c = rw (c.root.ensures, c.before.dot.ensures)
 
 pub length_spec : {M : Type 1} → statement M

@@ -1,6 +1,6 @@
 -- `space::vectors::unit` is `unit_of`: by whether a vector of that length has a unit.
 use mathlib.Core.Path.{sym}
-use Rattle.space.specs.Vectors.{unit_of}
+use Rattle.space.specs.Vectors.{unitOf}
 use borrow.Author.Rules.{rules}
 use Rattle.space.proofs.vectors.unit.Statement.{statement}
 use Rattle.space.proofs.vectors.unit.Tie as tie
@@ -18,11 +18,11 @@ over-requires : tie.Need-over-requires
 over-requires c κs = search rules
 
 returns : tie.Need-returns
-unfolding unit_of
+unfolding unitOf
 returns c = let s = c.before.before in rw (sym s.before.length.ensures, sym s.serves.ensures, c.before.if1.true, c.over.ensures)
 
 returns-2 : tie.Need-returns-2
-unfolding unit_of
+unfolding unitOf
 returns-2 c = let l = c.before.before in rw (sym l.length.ensures, sym c.before.serves.ensures, c.if1.false)
 
 pub unit_spec : {M : Type 1} → statement M

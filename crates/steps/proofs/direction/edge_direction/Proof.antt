@@ -1,7 +1,7 @@
 -- `direction::edge_direction` is the table of 16 and `directed` of the four places.
 use mathlib.Core.Path.{sym, ◌∙◌}
 use native.Mathlib.Omega.{arith}
-use Rattle.answers.proofs.Settled.{settled_here, settled-later, settled-empty}
+use Rattle.answers.proofs.Settled.{settled-here, settled-later, settled-empty}
 use Rattle.answers.proofs.Papers.{paper-no-direction, refused-no-direction}
 use Rattle.steps.specs.Direction.{directed, directionOf}
 use borrow.Author.Rules.{rules}
@@ -14,7 +14,7 @@ is-missing-requires c κs = search rules
 returns : tie.Need-returns
 unfolding directionOf
 returns c =
-    (paper-no-direction 16 ∙ sym (settled_here 16 (omega arith) _ _ _ (sym c.before.is-missing.ensures ∙ c.if1.true)), refused-no-direction 16 (λ z. omega (arith, z)))
+    (paper-no-direction 16 ∙ sym (settled-here 16 (omega arith) _ _ _ (sym c.before.is-missing.ensures ∙ c.if1.true)), refused-no-direction 16 (λ z. omega (arith, z)))
 
 place-at-requires : tie.Need-place-at-requires
 place-at-requires c κs = search rules

@@ -4,7 +4,7 @@ use mathlib.Core.Path.{sym, ap, ◌∙◌}
 use lib.Ieee.{Float}
 use native.Mathlib.Omega.{arith}
 use Rattle.leaves.specs.Constants.{plusZero}
-use Rattle.answers.proofs.Settled.{settled_here}
+use Rattle.answers.proofs.Settled.{settled-here}
 use Rattle.answers.specs.Answers.{valued}
 use Rattle.answers.proofs.Papers.{paper-parameter, paper-no-parameter, parameter-answers, refused-no-parameter}
 use Rattle.steps.specs.Sample.{sampleParameterOf}
@@ -22,7 +22,7 @@ sampled-requires c κs = sample-right _ _ _ (sym c.before.sample-wrong.ensures �
 returns : tie.Need-returns
 unfolding sampleParameterOf
 returns c =
-    (paper-no-parameter 16 ∙ sym (settled_here 16 (omega arith) _ _ _ (sym c.before.sample-wrong.ensures ∙ c.if1.true)), refused-no-parameter 16 (λ z. omega (arith, z)))
+    (paper-no-parameter 16 ∙ sym (settled-here 16 (omega arith) _ _ _ (sym c.before.sample-wrong.ensures ∙ c.if1.true)), refused-no-parameter 16 (λ z. omega (arith, z)))
 
 returns-2 : tie.Need-returns-2
 returns-2 c =

@@ -6,12 +6,12 @@ use native.Mathlib.Omega.{arith}
 use Rattle.leaves.specs.Constants.{greatestFinite}
 use Rattle.space.specs.Places.{placeAt}
 use Rattle.space.specs.declared.vectors.Place.{Place}
-use Rattle.answers.proofs.Settled.{settled_here, settled-later, settled-empty}
+use Rattle.answers.proofs.Settled.{settled-here, settled-later, settled-empty}
 use Rattle.answers.specs.Answers.{valued}
 use Rattle.answers.specs.Limits.{missing}
 use Rattle.answers.proofs.Papers.{paper-position, paper-no-position, position-answers, refused-no-position}
 use Rattle.answers.proofs.Present.{present}
-use Rattle.steps.specs.Placed.{anyNotFinite, placed_at, placed_of}
+use Rattle.steps.specs.Placed.{anyNotFinite, placedAt, placedOf}
 use borrow.Author.Rules.{rules}
 use Rattle.steps.proofs.transform.placed.Statement.{statement}
 use Rattle.steps.proofs.transform.placed.Tie as tie
@@ -20,17 +20,17 @@ is-missing-requires : tie.Need-is-missing-requires
 is-missing-requires c κs = search rules
 
 returns : tie.Need-returns
-unfolding placed_of
+unfolding placedOf
 returns c =
-    (paper-no-position 16 ∙ sym (settled_here 16 (omega arith) _ _ _ (rw (← c.before.is-missing.ensures, c.if1.true))), refused-no-position 16 (λ z. omega (arith, z)))
+    (paper-no-position 16 ∙ sym (settled-here 16 (omega arith) _ _ _ (rw (← c.before.is-missing.ensures, c.if1.true))), refused-no-position 16 (λ z. omega (arith, z)))
 
 is-missing-requires-2 : tie.Need-is-missing-requires-2
 is-missing-requires-2 c κs = search rules
 
 returns-2 : tie.Need-returns-2
-unfolding placed_of
+unfolding placedOf
 returns-2 c = (
-  paper-no-position 16 ∙ sym (settled_here 16 (omega arith) _ _ _ (rw (← c.before.before.before.is-missing.ensures, c.before.before.if1.false, ← c.before.is-missing2.ensures, c.if2.true))),
+  paper-no-position 16 ∙ sym (settled-here 16 (omega arith) _ _ _ (rw (← c.before.before.before.is-missing.ensures, c.before.before.if1.false, ← c.before.is-missing2.ensures, c.if2.true))),
   refused-no-position 16 (λ z. omega (arith, z)),
 )
 
@@ -48,27 +48,27 @@ placed-at-requires c κs =
     omega arith
 
 -- the place, and whether it passes 24
-place_is : (c : tie.After-placed-at) → c.placed_at_lem.result ≡ placed_at c.before.before.before.before.before.before.before.before.args.transform.now (placeAt c.before.before.before.before.before.before.before.before.args.point.now 0)
+place-is : (c : tie.After-placed-at) → c.placed_at_lem.result ≡ placedAt c.before.before.before.before.before.before.before.before.args.transform.now (placeAt c.before.before.before.before.before.before.before.before.args.point.now 0)
 place_is c = c.placed_at_lem.ensures ∙ ap (placed_at c.before.before.before.before.before.before.before.before.args.transform.now) c.before.place_at.ensures
 
-finite-is : (c : tie.After-any-not-finite) → anyNotFinite (placed_at c.before.before.before.before.before.before.before.before.before.args.transform.now (placeAt c.before.before.before.before.before.before.before.before.before.args.point.now 0)) ≡ c.any-not-finite.result
-finite-is c = sym (c.any-not-finite.ensures ∙ ap anyNotFinite (place_is c.before))
+finite-is : (c : tie.After-any-not-finite) → anyNotFinite (placedAt c.before.before.before.before.before.before.before.before.before.args.transform.now (placeAt c.before.before.before.before.before.before.before.before.before.args.point.now 0)) ≡ c.any-not-finite.result
+finite-is c = sym (c.any-not-finite.ensures ∙ ap anyNotFinite (place-is c.before))
 
 any-not-finite-requires : tie.Need-any-not-finite-requires
 any-not-finite-requires c κs = search rules
 
 returns-3 : tie.Need-returns-3
-unfolding placed_of
+unfolding placedOf
 returns-3 c = (
-  paper-no-position 24 ∙ sym (settled-later 16 _ _ _ (right c.before.before.before.before) ∙ settled_here 24 (omega arith) _ _ _ (finite-is c.before ∙ c.if3.true)),
+  paper-no-position 24 ∙ sym (settled-later 16 _ _ _ (right c.before.before.before.before) ∙ settled-here 24 (omega arith) _ _ _ (finite-is c.before ∙ c.if3.true)),
   refused-no-position 24 (λ z. omega (arith, z)),
 )
 
 returns-4 : tie.Need-returns-4
-unfolding placed_of
+unfolding placedOf
 returns-4 c = (
   paper-position _ _ _
-      ∙ ap (λ (p : Place). valued p.x p.y p.z) (place_is c.before.before)
+      ∙ ap (λ (p : Place). valued p.x p.y p.z) (place-is c.before.before)
       ∙ sym (settled-later 16 _ _ _ (right c.before.before.before.before) ∙ settled-later 24 _ _ _ (finite-is c.before ∙ c.if3.false) ∙ settled-empty _),
   position-answers _ _ _,
 )

@@ -1,6 +1,6 @@
 -- `transform::row_at` is `row_at`: the translation, then the three products, in this order.
 use mathlib.Core.Path.{refl}
-use Rattle.steps.specs.Placed.{row_at}
+use Rattle.steps.specs.Placed.{rowAt}
 use borrow.Author.Rules.{rules}
 use Rattle.steps.proofs.transform.row_at.Statement.{statement}
 use Rattle.steps.proofs.transform.row_at.Tie as tie
@@ -39,7 +39,7 @@ shared-slice-read-result-4 : tie.Need-shared-slice-read-result-4
 shared-slice-read-result-4 c = search rules
 
 returns : tie.Need-returns
-unfolding row_at
+unfolding rowAt
 returns c = refl
 
 pub row-at-spec : {M : Type 1} → statement M

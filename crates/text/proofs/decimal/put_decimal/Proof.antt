@@ -27,8 +27,8 @@ part-put-bytes-end c = search rules
 put-bytes-requires : tie.Need-put-bytes-requires
 put-bytes-requires c κs = search rules
 
-same_length : tie.Need-same-length
-same_length c = search rules
+same-length : tie.Need-same-length
+same-length c = search rules
 
 returns : tie.Need-returns
 returns c =
@@ -48,5 +48,5 @@ put-decimal-spec =
     part-put-bytes-start
     part-put-bytes-end
     put-bytes-requires
-    same_length
+    same-length
     returns)

@@ -53,8 +53,8 @@ digit-requires-2 c κs = search rules
 slice-write-text-2 : tie.Need-slice-write-text-2 invariant-loop decreases-loop
 slice-write-text-2 c = search rules
 
-same_length : tie.Need-same-length invariant-loop decreases-loop
-same_length c = simp length-set (omega arith)
+same-length : tie.Need-same-length invariant-loop decreases-loop
+same-length c = simp length-set (omega arith)
 
 returns : tie.Need-returns invariant-loop decreases-loop
 returns c =
@@ -77,5 +77,5 @@ spell-spec =
     cast-digit-2
     digit-requires-2
     slice-write-text-2
-    same_length
+    same-length
     returns)

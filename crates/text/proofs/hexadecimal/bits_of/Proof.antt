@@ -3,12 +3,12 @@ use lib.Ieee.{to_bits}
 use lib.Ieee.Compare.{differs_from_itself}
 use denote.Floats.{passes}
 use borrow.Author.Rules.{rules}
-use Rattle.leaves.proofs.Patterns.{equals_itself}
+use Rattle.leaves.proofs.Patterns.{equals-itself}
 use Rattle.text.proofs.hexadecimal.bits_of.Statement.{statement}
 use Rattle.text.proofs.hexadecimal.bits_of.Tie as tie
 
 float-to-bits-result : tie.Need-float-to-bits-result
-float-to-bits-result c = equals_itself _ c.if1.false
+float-to-bits-result c = equals-itself _ c.if1.false
 
 returns : tie.Need-returns
 unfolding to_bits

@@ -12,8 +12,8 @@ slice-aggregate-put-bytes c = search rules
 put-bytes-requires : tie.Need-put-bytes-requires
 put-bytes-requires c κs = search rules
 
-same_length : tie.Need-same-length
-same_length c = search rules
+same-length : tie.Need-same-length
+same-length c = search rules
 
 returns : tie.Need-returns
 returns c =
@@ -23,4 +23,4 @@ returns c =
 pub put-hex-spec : {M : Type 1} → statement M
 put-hex-spec =
     tie.close
-    (tie.spec hex-requires slice-aggregate-put-bytes put-bytes-requires same_length returns)
+    (tie.spec hex-requires slice-aggregate-put-bytes put-bytes-requires same-length returns)

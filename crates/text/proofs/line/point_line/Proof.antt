@@ -46,8 +46,8 @@ slice-aggregate-put-bytes-3 c = counted (ended c.before.before)
 put-bytes-requires-2 : tie.Need-put-bytes-requires-2
 put-bytes-requires-2 c κs = search rules
 
-same_length : tie.Need-same-length
-same_length c = search rules
+same-length : tie.Need-same-length
+same-length c = search rules
 
 returns : tie.Need-returns
 returns c = rw (← (ended c.before.before.before.before.before.before).start) c.before.before.put-bytes2.ensures
@@ -64,5 +64,5 @@ point-line-spec =
     array-share-prefix-line
     slice-aggregate-put-bytes-3
     put-bytes-requires-2
-    same_length
+    same-length
     returns)

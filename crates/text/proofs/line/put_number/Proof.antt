@@ -1,6 +1,6 @@
 -- `text::line::put_number` puts a space and the bits of x behind what the text begins with: both have room.
 use borrow.Author.Rules.{rules}
-use Rattle.text.proofs.Lines.{number_put}
+use Rattle.text.proofs.Lines.{number-put}
 use Rattle.text.proofs.line.put_number.Statement.{statement}
 use Rattle.text.proofs.line.put_number.Tie as tie
 
@@ -16,15 +16,15 @@ bits-of-requires c κs = search rules
 put-hex-requires : tie.Need-put-hex-requires
 put-hex-requires c κs = search rules
 
-same_length : tie.Need-same-length
-same_length c = search rules
+same-length : tie.Need-same-length
+same-length c = search rules
 
 returns : tie.Need-returns
 returns c =
     let h = c.before.before in
     let a = h.before.before.before.before.before in
     let b = a.put-bytes in
-    number_put _ _ _ _ _ _ _ _ a.before.before.before.before.requires b.auto.1.1.0 b.ensures.0 b.ensures.1 h.before.before.bits_of.ensures h.put-hex.ensures.0 h.put-hex.ensures.1
+    number-put _ _ _ _ _ _ _ _ a.before.before.before.before.requires b.auto.1.1.0 b.ensures.0 b.ensures.1 h.before.before.bits-of.ensures h.put-hex.ensures.0 h.put-hex.ensures.1
 
 pub put-number-spec : {M : Type 1} → statement M
 put-number-spec =
@@ -34,5 +34,5 @@ put-number-spec =
     put-bytes-requires
     bits-of-requires
     put-hex-requires
-    same_length
+    same-length
     returns)

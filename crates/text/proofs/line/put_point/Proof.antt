@@ -23,8 +23,8 @@ slice-aggregate-put-bytes c =
 put-bytes-requires : tie.Need-put-bytes-requires
 put-bytes-requires c κs = search rules
 
-same_length : tie.Need-same-length
-same_length c = search rules
+same-length : tie.Need-same-length
+same-length c = search rules
 
 returns : tie.Need-returns
 returns c = rw (← c.before.before.before.before.before.before.spell-point.ensures.1) c.before.before.put-bytes.ensures
@@ -38,5 +38,5 @@ put-point-spec =
     array-share-prefix-text
     slice-aggregate-put-bytes
     put-bytes-requires
-    same_length
+    same-length
     returns)

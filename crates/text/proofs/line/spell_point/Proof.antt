@@ -8,7 +8,7 @@ use lib.ListN.{length-append}
 use borrow.Author.Rules.{rules}
 use Rattle.text.specs.Digits.{decimal}
 use Rattle.text.specs.Line.{space, number, pointText}
-use Rattle.text.proofs.Lines.{Begun, within, unwritten, put-more, number_more, zero-length, number-length}
+use Rattle.text.proofs.Lines.{Begun, within, unwritten, put-more, number-more, zero-length, number-length}
 use Rattle.text.proofs.Tens.{decimal-length}
 use Rattle.text.proofs.line.spell_point.Statement.{statement}
 use Rattle.text.proofs.line.spell_point.Tie as tie
@@ -24,25 +24,25 @@ abbrev to-x : tie.After-put-number → List ℕ
 to-x c = decimal 0 ++ number c.before.before.before.before.before.before.before.args.x
 
 after-x : (c : tie.After-put-number) → Begun 80 c.put-number.result c.put-number.new.1.1.0 (to-x c)
-after-x c = let p = c.put-number in number_more _ _ _ (after-status c.before.before.before.before) p.auto.1.1.0 p.ensures.0 p.ensures.1
+after-x c = let p = c.put-number in number-more _ _ _ (after-status c.before.before.before.before) p.auto.1.1.0 p.ensures.0 p.ensures.1
 
 abbrev to-y : tie.After-put-number2 → List ℕ
 to-y c = to-x c.before.before.before.before ++ number c.before.before.before.before.before.before.before.before.before.before.before.args.y
 
 after-y : (c : tie.After-put-number2) → Begun 80 c.put-number2.result c.put-number2.new.1.1.0 (to-y c)
-after-y c = let p = c.put-number2 in number_more _ _ _ (after-x c.before.before.before.before) p.auto.1.1.0 p.ensures.0 p.ensures.1
+after-y c = let p = c.put-number2 in number-more _ _ _ (after-x c.before.before.before.before) p.auto.1.1.0 p.ensures.0 p.ensures.1
 
 abbrev to-z : tie.After-put-number3 → List ℕ
 to-z c = to-y c.before.before.before.before ++ number c.before.before.before.before.before.before.before.before.before.before.before.before.before.before.before.args.z
 
 after-z : (c : tie.After-put-number3) → Begun 80 c.put-number3.result c.put-number3.new.1.1.0 (to-z c)
-after-z c = let p = c.put-number3 in number_more _ _ _ (after-y c.before.before.before.before) p.auto.1.1.0 p.ensures.0 p.ensures.1
+after-z c = let p = c.put-number3 in number-more _ _ _ (after-y c.before.before.before.before) p.auto.1.1.0 p.ensures.0 p.ensures.1
 
 abbrev to-clearance : tie.After-put-number4 → List ℕ
 to-clearance c = to-z c.before.before.before.before ++ number c.before.before.before.before.before.before.before.before.before.before.before.before.before.before.before.before.before.before.before.args.clearance
 
 after-clearance : (c : tie.After-put-number4) → Begun 80 c.put-number4.result c.put-number4.new.1.1.0 (to-clearance c)
-after-clearance c = let p = c.put-number4 in number_more _ _ _ (after-z c.before.before.before.before) p.auto.1.1.0 p.ensures.0 p.ensures.1
+after-clearance c = let p = c.put-number4 in number-more _ _ _ (after-z c.before.before.before.before) p.auto.1.1.0 p.ensures.0 p.ensures.1
 
 after-space : (c : tie.After-put-bytes) → Begun 80 c.put-bytes.result c.put-bytes.new.1.1.0 (to-clearance c.before.before.before.before.before ++ (space ∷ []))
 after-space c =
@@ -79,8 +79,8 @@ put-bytes-requires c κs = search rules
 put-decimal-requires-2 : tie.Need-put-decimal-requires-2
 put-decimal-requires-2 c κs = search rules
 
-same_length : tie.Need-same-length
-same_length c = search rules
+same-length : tie.Need-same-length
+same-length c = search rules
 
 returns : tie.Need-returns
 unfolding pointText
@@ -98,5 +98,5 @@ spell-point-spec =
     slice-aggregate-put-bytes
     put-bytes-requires
     put-decimal-requires-2
-    same_length
+    same-length
     returns)

@@ -7,7 +7,7 @@ use native.Mathlib.Omega.{arith}
 use lib.ListN.{length, length-set}
 use lib.Seq.{paste, paste-zero, paste-suc}
 use borrow.Author.Rules.{rules}
-use Rattle.text.proofs.Pages.{no_room, in-room}
+use Rattle.text.proofs.Pages.{no-room, in-room}
 use Rattle.text.proofs.page.put_bytes.Statement.{statement}
 use Rattle.text.proofs.page.put_bytes.Tie as tie
 
@@ -18,13 +18,13 @@ abbrev decreases-loop : tie.decreases-loop
 decreases-loop bytes at page₀ k₀ page k = length bytes - k
 
 returns : tie.Need-returns invariant-loop decreases-loop
-returns c = no_room _ _ _ (omega arith)
+returns c = no-room _ _ _ (omega arith)
 
 sub-if2 : tie.Need-overflow-sub-if2 invariant-loop decreases-loop
 sub-if2 c = search rules
 
 returns-2 : tie.Need-returns-2 invariant-loop decreases-loop
-returns-2 c = no_room _ _ _ (omega arith)
+returns-2 c = no-room _ _ _ (omega arith)
 
 loop-holds : tie.Need-loop-init invariant-loop decreases-loop
 loop-holds c = let a = c.before.before.args in (omega arith, refl, paste-zero a.page.now a.at a.bytes.now)
@@ -54,8 +54,8 @@ loop-again c =
 add-result : tie.Need-overflow-add-result invariant-loop decreases-loop
 add-result c = search rules
 
-same_length : tie.Need-same-length invariant-loop decreases-loop
-same_length c = search rules
+same-length : tie.Need-same-length invariant-loop decreases-loop
+same-length c = search rules
 
 returns-3 : tie.Need-returns-3 invariant-loop decreases-loop
 returns-3 c =
@@ -81,5 +81,5 @@ put-bytes-spec =
     loop-less
     loop-again
     add-result
-    same_length
+    same-length
     returns-3)

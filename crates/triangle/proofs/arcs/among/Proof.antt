@@ -8,10 +8,10 @@ use lib.Ieee.{Float}
 use Rattle.space.specs.Vectors.{unitFails, alongOf}
 use Rattle.space.specs.declared.vectors.Place.{Place}
 use Rattle.answers.specs.Outcome.{refused}
-use Rattle.answers.proofs.Settled.{settled_here, settled-later, settled-empty}
+use Rattle.answers.proofs.Settled.{settled-here, settled-later, settled-empty}
 use Rattle.answers.proofs.Papers.{paper-no-position, refused-no-position}
 use Rattle.triangle.specs.declared.arcs.Arc.{Arc}
-use Rattle.triangle.specs.Triangle.{gapAmong, inner_of, noInterior, onSphere, triangleAmong}
+use Rattle.triangle.specs.Triangle.{gapAmong, innerOf, noInterior, onSphere, triangleAmong}
 use borrow.Author.Rules.{rules}
 use Rattle.triangle.proofs.arcs.among.Statement.{statement}
 use Rattle.triangle.proofs.arcs.among.Tie as tie
@@ -21,39 +21,39 @@ use Rattle.triangle.proofs.arcs.among.Tie as tie
 module _ (centre : Place) (radius : Float) (sense : ℕ) (a b c : Arc) where
   gap : gapAmong a b c ≡ true → refused 18 ≡ triangleAmong centre radius sense a b c
   unfolding triangleAmong
-  gap e = sym (settled_here 18 (omega arith) _ _ _ e)
+  gap e = sym (settled-here 18 (omega arith) _ _ _ e)
 
   abbrev none : Bool
-  none = noInterior sense (alongOf (inner_of a b c)) a b c
+  none = noInterior sense (alongOf (innerOf a b c)) a b c
 
-  no-unit : gapAmong a b c ≡ false → unitFails (inner_of a b c) ≡ true → refused 19 ≡ triangleAmong centre radius sense a b c
+  no-unit : gapAmong a b c ≡ false → unitFails (innerOf a b c) ≡ true → refused 19 ≡ triangleAmong centre radius sense a b c
   unfolding triangleAmong
-  no-unit e f = sym (settled-later 18 _ _ _ e ∙ settled_here 19 (omega arith) _ _ _ (ap (λ (u : Bool). u || none) f))
+  no-unit e f = sym (settled-later 18 _ _ _ e ∙ settled-here 19 (omega arith) _ _ _ (ap (λ (u : Bool). u || none) f))
 
-  no-inside : gapAmong a b c ≡ false → unitFails (inner_of a b c) ≡ false → none ≡ true → refused 19 ≡ triangleAmong centre radius sense a b c
+  no-inside : gapAmong a b c ≡ false → unitFails (innerOf a b c) ≡ false → none ≡ true → refused 19 ≡ triangleAmong centre radius sense a b c
   unfolding triangleAmong
-  no-inside e f g = sym (settled-later 18 _ _ _ e ∙ settled_here 19 (omega arith) _ _ _ (ap₂ ◌||◌ f g))
+  no-inside e f g = sym (settled-later 18 _ _ _ e ∙ settled-here 19 (omega arith) _ _ _ (ap₂ ◌||◌ f g))
 
-  answered : gapAmong a b c ≡ false → unitFails (inner_of a b c) ≡ false → none ≡ false → onSphere centre radius (alongOf (inner_of a b c)) ≡ triangleAmong centre radius sense a b c
+  answered : gapAmong a b c ≡ false → unitFails (innerOf a b c) ≡ false → none ≡ false → onSphere centre radius (alongOf (innerOf a b c)) ≡ triangleAmong centre radius sense a b c
   unfolding triangleAmong
   answered e f g = sym (settled-later 18 _ _ _ e ∙ settled-later 19 _ _ _ (ap₂ ◌||◌ f g) ∙ settled-empty _)
 
 -- ---- what the calls say
 
-no_gap : (e : tie.Else1) → gapAmong e.before.before.args.a e.before.before.args.b e.before.before.args.c ≡ false
-no_gap e = sym e.before.any-gap.ensures ∙ e.if1.false
+no-gap : (e : tie.Else1) → gapAmong e.before.before.args.a e.before.before.args.b e.before.before.args.c ≡ false
+no-gap e = sym e.before.any-gap.ensures ∙ e.if1.false
 
-inner-is : (u : tie.After-unit) → let s = u.before.before.before.before.args in u.unit.result ≡ inner_of s.a s.b s.c
-unfolding inner_of
+inner-is : (u : tie.After-unit) → let s = u.before.before.before.before.args in u.unit.result ≡ innerOf s.a s.b s.c
+unfolding innerOf
 inner-is u = rw (u.unit.ensures, u.before.start-sum.ensures)
 
-fails-is : (f : tie.After-fails) → let s = f.before.before.before.before.before.args in f.fails.result ≡ unitFails (inner_of s.a s.b s.c)
+fails-is : (f : tie.After-fails) → let s = f.before.before.before.before.before.args in f.fails.result ≡ unitFails (innerOf s.a s.b s.c)
 fails-is f = f.fails.ensures ∙ ap unitFails (inner-is f.before)
 
-along-is : (l : tie.After-along) → let s = l.before.before.before.before.before.before.before.args in l.along.result ≡ alongOf (inner_of s.a s.b s.c)
+along-is : (l : tie.After-along) → let s = l.before.before.before.before.before.before.before.args in l.along.result ≡ alongOf (innerOf s.a s.b s.c)
 along-is l = l.along.ensures ∙ ap alongOf (inner-is l.before.before.before)
 
-interior-is : (n : tie.After-no-interior) → let s = n.before.before.before.before.before.before.before.before.args in n.no-interior.result ≡ noInterior s.sense (alongOf (inner_of s.a s.b s.c)) s.a s.b s.c
+interior-is : (n : tie.After-no-interior) → let s = n.before.before.before.before.before.before.before.before.args in n.no-interior.result ≡ noInterior s.sense (alongOf (innerOf s.a s.b s.c)) s.a s.b s.c
 interior-is n = rw (n.no-interior.ensures, along-is n.before)
 
 any-gap-requires : tie.Need-any-gap-requires
@@ -77,7 +77,7 @@ returns-2 : tie.Need-returns-2
 returns-2 c =
     let e = c.before.before.before.before in
     let s = e.before.before.args in
-    (paper-no-position 19 ∙ no-unit s.centre s.radius s.sense s.a s.b s.c (no_gap e) (sym (fails-is c.before) ∙ c.if2.true), refused-no-position 19 (λ z. omega (arith, z)))
+    (paper-no-position 19 ∙ no-unit s.centre s.radius s.sense s.a s.b s.c (no-gap e) (sym (fails-is c.before) ∙ c.if2.true), refused-no-position 19 (λ z. omega (arith, z)))
 
 along-requires : tie.Need-along-requires
 along-requires c κs = search rules
@@ -90,7 +90,7 @@ returns-3 c =
     let f = c.before.before.before in
     let e = f.before.before.before.before in
     let s = e.before.before.args in (
-      paper-no-position 19 ∙ no-inside s.centre s.radius s.sense s.a s.b s.c (no_gap e) (sym (fails-is f.before) ∙ f.if2.false) (sym (interior-is c.before) ∙ c.if3.true),
+      paper-no-position 19 ∙ no-inside s.centre s.radius s.sense s.a s.b s.c (no-gap e) (sym (fails-is f.before) ∙ f.if2.false) (sym (interior-is c.before) ∙ c.if3.true),
       refused-no-position 19 (λ z. omega (arith, z)),
     )
 
@@ -105,7 +105,7 @@ returns-4 c =
     let s = e.before.before.args in (
       c.on-sphere.ensures.0
           ∙ ap (onSphere s.centre s.radius) (along-is n.before)
-          ∙ answered s.centre s.radius s.sense s.a s.b s.c (no_gap e) (sym (fails-is f.before) ∙ f.if2.false) (sym (interior-is n) ∙ c.before.if3.false),
+          ∙ answered s.centre s.radius s.sense s.a s.b s.c (no-gap e) (sym (fails-is f.before) ∙ f.if2.false) (sym (interior-is n) ∙ c.before.if3.false),
       c.on-sphere.ensures.1,
     )
 

@@ -3,13 +3,13 @@
 use mathlib.Core.Logic.{⊎_elim}
 use mathlib.Core.Path.{◌≡◌}
 use borrow.Author.Tests.{eq-eqb, ne_eqb}
-use Rattle.triangle.specs.Triangle.{sign_of, noInterior}
+use Rattle.triangle.specs.Triangle.{signOf, noInterior}
 use borrow.Author.Rules.{rules}
 use Rattle.triangle.proofs.arcs.no_interior.Statement.{statement}
 use Rattle.triangle.proofs.arcs.no_interior.Tie as tie
 
-sign-is : (j : tie.Joined2) → j.if2.sign ≡ sign_of j.before.before.args.sense
-unfolding sign_of
+sign-is : (j : tie.Joined2) → j.if2.sign ≡ signOf j.before.before.args.sense
+unfolding signOf
 sign-is j =
     let sense = j.before.before.args.sense in
     ⊎_elim (λ w. rw (w.1, eq-eqb sense 1 w.0.taken)) (λ w. rw (w.1, ne_eqb sense 1 w.0.left)) j.if2.branch

@@ -9,7 +9,7 @@ use lib.Ieee.{Float}
 use lib.ListN.{get_or}
 use Rattle.space.specs.declared.vectors.Place.{Place}
 use Rattle.answers.specs.Outcome.{refused}
-use Rattle.answers.proofs.Settled.{settled_here, settled-later, settled-empty}
+use Rattle.answers.proofs.Settled.{settled-here, settled-later, settled-empty}
 use Rattle.answers.proofs.Papers.{paper-no-position, refused-no-position}
 use Rattle.sides.specs.Sides.{sphereWrong, sidesBeyond, sidesWrong}
 use Rattle.triangle.specs.Triangle.{arcOf, triangleAmong, triangleOf}
@@ -22,15 +22,15 @@ use Rattle.triangle.proofs.arcs.spherical_triangle.Tie as tie
 module _ (centre : Place) (radius : Float) (sense : ℕ) (ends : List (List (List Float))) (reversed : List Bool) (circles ranges : List (List Float)) (evaluated : List (List (List Float))) where
   no-sphere : sphereWrong centre radius sense ≡ true → refused 16 ≡ triangleOf centre radius sense ends reversed circles ranges evaluated
   unfolding triangleOf
-  no-sphere e = sym (settled_here 16 (omega arith) _ _ _ (ap (λ (b : Bool). b || sidesBeyond ends circles ranges evaluated) e))
+  no-sphere e = sym (settled-here 16 (omega arith) _ _ _ (ap (λ (b : Bool). b || sidesBeyond ends circles ranges evaluated) e))
 
   no-side : sphereWrong centre radius sense ≡ false → sidesBeyond ends circles ranges evaluated ≡ true → refused 16 ≡ triangleOf centre radius sense ends reversed circles ranges evaluated
   unfolding triangleOf
-  no-side e f = sym (settled_here 16 (omega arith) _ _ _ (ap₂ ◌||◌ e f))
+  no-side e f = sym (settled-here 16 (omega arith) _ _ _ (ap₂ ◌||◌ e f))
 
   no-triangle : sphereWrong centre radius sense ≡ false → sidesBeyond ends circles ranges evaluated ≡ false → sidesWrong centre radius ends circles ranges evaluated ≡ true → refused 17 ≡ triangleOf centre radius sense ends reversed circles ranges evaluated
   unfolding triangleOf
-  no-triangle e f g = sym (settled-later 16 _ _ _ (ap₂ ◌||◌ e f) ∙ settled_here 17 (omega arith) _ _ _ g)
+  no-triangle e f g = sym (settled-later 16 _ _ _ (ap₂ ◌||◌ e f) ∙ settled-here 17 (omega arith) _ _ _ g)
 
   passed :
       sphereWrong centre radius sense ≡ false

@@ -7,7 +7,7 @@ use native.Mathlib.Omega.{arith}
 use Rattle.space.specs.Places.{triples}
 use Rattle.sheet.specs.Content.{pairs}
 use Rattle.vertex_fallback.specs.Vertices.{servesOf, cornersOf, firstServing}
-use Rattle.vertex_fallback.proofs.Corners.{Searching, search-start, turn-found, turn-passed, last_found, none_found}
+use Rattle.vertex_fallback.proofs.Corners.{Searching, search-start, turn-found, turn-passed, last-found, none-found}
 use Rattle.vertex_fallback.proofs.vertices.first_serving.Statement.{statement}
 use Rattle.vertex_fallback.proofs.vertices.first_serving.Tie as tie
 
@@ -77,12 +77,12 @@ position-requires-2 c κs = tt
 returns-2 : tie.Need-returns-2 invariant-loop decreases-loop
 returns-2 c =
     let s = c.before.before.before in
-    last_found s.before.before.loop.invariant s.before.loop-test.false s.serves2.ensures c.before.before.if2.true c.before.centre2.ensures c.position2.ensures
+    last-found s.before.before.loop.invariant s.before.loop-test.false s.serves2.ensures c.before.before.if2.true c.before.centre2.ensures c.position2.ensures
 
 returns-3 : tie.Need-returns-3 invariant-loop decreases-loop
 returns-3 c =
     let s = c.before in
-    none_found s.before.before.loop.invariant s.before.loop-test.false s.serves2.ensures c.if2.false
+    none-found s.before.before.loop.invariant s.before.loop-test.false s.serves2.ensures c.if2.false
 
 pub first-serving-spec : {M : Type 1} → statement M
 first-serving-spec =

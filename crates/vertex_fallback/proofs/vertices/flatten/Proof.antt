@@ -9,9 +9,9 @@ use lib.ListN.{drop, length-set}
 use Rattle.space.specs.Places.{triples}
 use Rattle.space.specs.Vectors.{dotOf}
 use Rattle.space.specs.declared.vectors.Place.{Place}
-use Rattle.space.proofs.Triples.{triples_step, triples-end}
+use Rattle.space.proofs.Triples.{triples-step, triples-end}
 use Rattle.sheet.specs.Content.{point}
-use Rattle.points.proofs.InPlace.{Written, none_written, point-written, all-filled}
+use Rattle.points.proofs.InPlace.{Written, none-written, point-written, all-filled}
 use Rattle.vertex_fallback.specs.Vertices.{flattened}
 use Rattle.vertex_fallback.proofs.vertices.flatten.Statement.{statement}
 use Rattle.vertex_fallback.proofs.vertices.flatten.Tie as tie
@@ -23,7 +23,7 @@ abbrev decreases-loop : tie.decreases-loop
 decreases-loop u v corners ring₀ count k₀ ring k = count - k
 
 loop-holds : tie.Need-loop-init invariant-loop decreases-loop
-loop-holds c = (omega arith, none_written _ _)
+loop-holds c = (omega arith, none-written _ _)
 
 mul-place-at : tie.Need-overflow-mul-place-at invariant-loop decreases-loop
 mul-place-at c = omega arith
@@ -31,8 +31,8 @@ mul-place-at c = omega arith
 place-at-requires : tie.Need-place-at-requires invariant-loop decreases-loop
 place-at-requires c κs = tt
 
-mul_at : tie.Need-overflow-mul-at invariant-loop decreases-loop
-mul_at c = omega arith
+mul-at : tie.Need-overflow-mul-at invariant-loop decreases-loop
+mul-at c = omega arith
 
 dot-requires : tie.Need-dot-requires invariant-loop decreases-loop
 dot-requires c κs = tt
@@ -70,11 +70,11 @@ loop-again c =
     let x = c.before.dot.ensures ∙ ap (λ (p : Place). dotOf p a.u) here in
     let y = c.dot2.ensures ∙ ap (λ (p : Place). dotOf p a.v) here in
     let left = map (flattened a.u a.v) (triples (drop (3 * (l.loop.k + 1)) a.corners.now)) in
-    let e = ap (map (flattened a.u a.v)) (triples_step a.corners.now l.loop.k (omega arith)) ∙ (λ i. point (sym x i) (sym y i) ∷ left) in
+    let e = ap (map (flattened a.u a.v)) (triples-step a.corners.now l.loop.k (omega arith)) ∙ (λ i. point (sym x i) (sym y i) ∷ left) in
     (omega arith, point-written l.loop.invariant.1 c.before.dot.result c.dot2.result left e (omega arith))
 
-same_length : tie.Need-same-length invariant-loop decreases-loop
-same_length c = c.before.loop.invariant.1.same
+same-length : tie.Need-same-length invariant-loop decreases-loop
+same-length c = c.before.loop.invariant.1.same
 
 returns : tie.Need-returns invariant-loop decreases-loop
 returns c =
@@ -91,7 +91,7 @@ flatten-spec =
     loop-holds
     mul-place-at
     place-at-requires
-    mul_at
+    mul-at
     dot-requires
     mul-ring
     slice-write-ring
@@ -102,5 +102,5 @@ flatten-spec =
     add-k
     loop-less
     loop-again
-    same_length
+    same-length
     returns)

@@ -6,7 +6,7 @@ use Prim.Native.Nat.{◌*◌, ◌/◌, ◌≤◌}
 use native.Mathlib.Omega.{arith}
 use lib.ListN.{length}
 use lib.Seq.{length-take-le}
-use Rattle.answers.proofs.Settled.{settled_here, settled-later}
+use Rattle.answers.proofs.Settled.{settled-here, settled-later}
 use Rattle.answers.proofs.Papers.{paper-no-position, refused-no-position}
 use Rattle.vertex_fallback.specs.Vertices.{verticesWrong, pointOnOf}
 use Rattle.vertex_fallback.proofs.Corners.{corners-right, point-on-answered}
@@ -20,7 +20,7 @@ vertices-wrong-requires c κs = search rules
 returns : tie.Need-returns
 unfolding pointOnOf
 returns c =
-    (paper-no-position 16 ∙ sym (settled_here 16 (omega arith) _ _ _ (sym c.before.vertices-wrong.ensures ∙ c.if1.true)), refused-no-position 16 (λ z. omega (arith, z)))
+    (paper-no-position 16 ∙ sym (settled-here 16 (omega arith) _ _ _ (sym c.before.vertices-wrong.ensures ∙ c.if1.true)), refused-no-position 16 (λ z. omega (arith, z)))
 
 -- the lists pass 16
 right : (c : tie.Else1) → verticesWrong c.before.before.before.before.before.args.u-axis.now c.before.before.before.before.before.args.normal.now c.before.before.before.before.before.args.corners.now ≡ false
@@ -32,7 +32,7 @@ corners-wrong-requires c κs = search rules
 returns-2 : tie.Need-returns-2
 unfolding pointOnOf
 returns-2 c = (
-  paper-no-position 20 ∙ sym (settled-later 16 _ _ _ (right c.before.before) ∙ settled_here 20 (omega arith) _ _ _ (sym c.before.corners-wrong.ensures ∙ c.if2.true)),
+  paper-no-position 20 ∙ sym (settled-later 16 _ _ _ (right c.before.before) ∙ settled-here 20 (omega arith) _ _ _ (sym c.before.corners-wrong.ensures ∙ c.if2.true)),
   refused-no-position 20 (λ z. omega (arith, z)),
 )
 
