@@ -1,5 +1,6 @@
 // What the calls answer, and the numbers that they are given, held against their limits. Every other crate but
 // the leaves stands on this one.
+#![tactic(auto)]
 
 mod forms;
 mod numbers;

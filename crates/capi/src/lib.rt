@@ -2,6 +2,8 @@
 // target/staticlib/libcapi.a (`rt staticlib capi`). Names carry the prefix facepoint_, since `round`
 // and `hypot` alone would clash with the C library's. A slice goes as a pointer and the number of its
 // elements.
+#![tactic(auto)]
+
 ghost use Rattle.std.specs.Prelude.{◌≡◌};
 ghost use Rattle.answers.specs.Returned.{returned, returnedOf};
 ghost use Rattle.leaves.specs.Root.{rootOf};

@@ -1,6 +1,8 @@
 // Calls that programs read from a file: the head before each sheet, numbers in bytes, and the
 // list that a call is lent, to be filled, held against recorded numbers or added up. Every public function
 // has an answer for all arguments.
+#![tactic(auto)]
+
 mod big_endian;
 mod list;
 mod record;

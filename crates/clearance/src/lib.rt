@@ -1,5 +1,6 @@
 // Rule 8: the distance of a point to segments, by the leaves' key; the root of the least is the caller's. The
 // segments of all rings stand in one list of numbers, four a segment.
+#![tactic(auto)]
 
 mod nearest;
 mod segment_list;

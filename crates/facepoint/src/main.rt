@@ -3,6 +3,8 @@
 // Where the input cannot be read there is no answer and no line; that, and a line that cannot be written, is
 // said on standard error. A proved program has no exit status to set: it ends with 0, or by the signal of a
 // pipe that nobody reads.
+#![tactic(auto)]
+
 ghost use Rattle.std.specs.Prelude.{◌≡◌, length, take};
 ghost use Rattle.io.specs.Counts.{IsPrefixLen};
 ghost use Rattle.answers.specs.Answers.{paper};

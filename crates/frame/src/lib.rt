@@ -1,5 +1,6 @@
 // Rule 3 and the joins: the box of all rings, band and periodic, scales, and the checks 8 and 11 to 13. Chart
 // and picks begin at the two functions `refusal` and `lay_out`, with their own 9 or 10 between them.
+#![tactic(auto)]
 
 mod checks;
 mod framing;

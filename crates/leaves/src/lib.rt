@@ -2,6 +2,7 @@
 // choices that every layer above stands on. Each public function has an answer for every f64, NaN
 // and infinities included, and its contract is an equality with a definition of specs/.
 // Only a NaN's bits are free.
+#![tactic(auto)]
 
 mod bounds;
 pub mod constants;

@@ -30,8 +30,8 @@ pub fn round(x: f64) -> f64
 // nearest whole number is (n + 1) / 2 without its fraction. Below 2^52 both x + x and the answer
 // are exact. (x + 0.5 would be rounded: 0.49999999999999994 + 0.5 is 1.)
 fn nearest_whole(x: f64) -> f64
-    requires fact_1 { T (lt plusZero x) }
-    requires fact_2 { T (lt x (from_bits binary64 0x4330000000000000)) }
+    requires above_zero { T (lt plusZero x) }
+    requires below { T (lt x (from_bits binary64 0x4330000000000000)) }
     ensures { result ≡ roundOf x }
 {
     let halves = std::num::truncating_f64_to_u64(x + x);

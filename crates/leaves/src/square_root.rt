@@ -54,8 +54,8 @@ fn root_above_zero(x: f64) -> f64
 
 // The root of low / 2^1074: the highest set digit is moved to the place of a normal number's leading one.
 fn root_of_subnormal(low: u64) -> f64
-    requires fact_1 { 0 < low }
-    requires fact_2 { low < 2 ^ 52 }
+    requires not_zero { 0 < low }
+    requires small { low < 2 ^ 52 }
     ensures { RootOfFraction result low 1074 }
 {
     let places = (u64::leading_zeros(low) - 11) as u64;
@@ -64,9 +64,9 @@ fn root_of_subnormal(low: u64) -> f64
 
 // The root of significand * 2^exponent / 2^2096.
 fn root_of_scaled(significand: u64, exponent: u64) -> f64
-    requires fact_1 { 2 ^ 52 ≤ significand }
-    requires fact_2 { significand < 2 ^ 53 }
-    requires fact_3 { exponent < 3068 }
+    requires large { 2 ^ 52 ≤ significand }
+    requires small { significand < 2 ^ 53 }
+    requires exponent_small { exponent < 3068 }
     ensures { RootOfFraction result (significand * 2 ^ exponent) 2096 }
 {
     if exponent % 2 == 0 {
@@ -78,9 +78,9 @@ fn root_of_scaled(significand: u64, exponent: u64) -> f64
 
 // The root of significand * 2^(2 half) / 2^2096: 54 digits, the last one rounded away, packed.
 fn root_of_even(significand: u64, half: u64) -> f64
-    requires fact_1 { 2 ^ 52 ≤ significand }
-    requires fact_2 { significand < 2 ^ 54 - 1 }
-    requires fact_3 { half < 1534 }
+    requires large { 2 ^ 52 ≤ significand }
+    requires small { significand < 2 ^ 54 - 1 }
+    requires half_small { half < 1534 }
     ensures { RootOfFraction result (significand * 2 ^ (2 * half)) 2096 }
 {
     let found = digits(0, 54, significand * 2);

@@ -1,6 +1,7 @@
 // Rule 8 in space and check 15: whether a place is too close to the images of a sheet's rings, which the host
 // gives or which lie on the sheet's plane; and the plane stand-in. Every public function has an answer for
 // every list.
+#![tactic(auto)]
 
 mod closeness;
 mod deviation;

@@ -4,6 +4,8 @@
 // as bits and the count, and of the chart a number that every place of the list goes into. rust/oracle made
 // the plates and says their lines (make_plates). A missing file leaves no line, and a file that is cut off
 // or broken ends with the line `broken`.
+#![tactic(auto)]
+
 ghost use Rattle.std.specs.Prelude.{◌≡◌, ℕ, ◌-◌, ◌<◌, ◌≤◌, length, get_or};
 ghost use Rattle.io.specs.Counts.{IsPrefixLen};
 

@@ -1,6 +1,7 @@
 // The points of one ring: read from its block, moved (rules 1 and 2), measured (rules 3 and 4), normalised
 // (rule 5), written for the host; and rule 6's grid. A ring's points stand in a slice of f64 as u, v of the
 // first, u, v of the next, and so on; a last number that is no point's is passed over.
+#![tactic(auto)]
 
 mod bounds;
 mod grid;

@@ -16,6 +16,8 @@
 //
 // rust/oracle made the files (make_replay, make_replay_after). A missing file leaves no line, and a file that
 // is cut off or broken has one wrong answer more.
+#![tactic(auto)]
+
 ghost use Rattle.std.specs.Prelude.{◌≡◌, ◌&&◌, ◌≤◌};
 ghost use Rattle.replay.specs.Recorded.{recorded};
 

@@ -3,6 +3,7 @@
 // become the best, none for the others; an early stop at a segment that is as near as the best grid point's
 // nearest; the segments that stopped the grid points before, first; on a periodic chart the moved ends once a
 // sheet, and of each segment one copy or two.
+#![tactic(auto)]
 
 mod candidate;
 mod copies;

@@ -1,6 +1,7 @@
 // The sheet: a trimmed face as bytes. Its layout, its fields, and the checks 1 to 7 of document 01's
 // table. Every function has an answer for every list of bytes; what a byte or a number past the end
 // reads as is said by the definitions of specs/Layout.antt.
+#![tactic(auto)]
 
 mod checks;
 mod fields;

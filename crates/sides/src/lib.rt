@@ -1,4 +1,5 @@
 // The sphere and the sides of a triangle on a sphere, held against document 01's refusals 16 and 17.
+#![tactic(auto)]
 
 mod checks;
 

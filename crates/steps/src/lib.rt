@@ -2,6 +2,7 @@
 // a curve's sample and the direction of an edge's points, after it the point by the body's transform. Every call
 // makes every check itself, 16 first, over every number that it is given; a list of another length than the
 // call's is a number missing.
+#![tactic(auto)]
 
 mod direction;
 mod sample;

@@ -1,6 +1,8 @@
 // What programs print, written into a page that the caller lends. A writer is told the place from which it
 // writes and answers the place behind what it wrote. Where the page has no room for the whole, it writes
 // nothing and answers the place that it was told. No writer asks anything of its caller.
+#![tactic(auto)]
+
 mod decimal;
 mod hexadecimal;
 mod line;

@@ -3,6 +3,8 @@
 // digits. The hardware's square root and Rust's f64::round made the answers (rust/oracle,
 // make_vectors). Every NaN counts as the same. A file that is missing or short changes the output.
 // That the constants of `leaves` have their bits is proved, and tried when the program starts.
+#![tactic(auto)]
+
 ghost use Rattle.std.specs.Prelude.{◌≡◌, true, ◌<◌, ◌≤◌};
 ghost use Rattle.std.specs.Float.Ieee.{nan_bits, of_bits};
 ghost use Rattle.std.specs.Float.{binary64};

@@ -6,10 +6,7 @@ use lib.Ieee.Fits.{neg-fits}
 use Rattle.leaves.specs.Constants.{plusZero}
 use Rattle.leaves.specs.Round.{roundOf}
 use Rattle.leaves.proofs.Wholes.{round-large, round-neg, round-zero}
-use Rattle.leaves.proofs.nearest.round.Statement.{statement}
-use Rattle.leaves.proofs.nearest.round.Tie as tie
-
--- ---- a value and its negative
+use Rattle.leaves.proofs.nearest.round.Goals as goal
 
 neg-neg : (x : Float) → neg (neg x) ≡ x
 unfolding neg
@@ -31,8 +28,6 @@ above (inf false) p = absurd p
 above (fin true m e) p = lt→ltb (0 * 2 ^ 0 * down e) (m * up e * 1) (omega (arith, ltb→lt 0 (m * up e * 1 + 0 * 2 ^ 0 * down e) p))
 above (fin false m e) p = absurd (omega (arith, ltb→lt (m * up e * 1) (0 * 2 ^ 0 * down e) p))
 
--- ---- what is its own whole number
-
 large : (x : Float) → T (fits binary64 x) → T (lt plusZero x) → T (not (lt x (of_bits binary64 0x4330000000000000))) → x ≡ roundOf x
 unfolding lt of_bits roundOf
 large nan h p q = refl
@@ -47,48 +42,25 @@ neither (inf s) h p q = refl
 neither (fin true m e) h p q = sym (round-zero binary64 true m e h (omega (arith, nltb→le 0 (m * up e * 1 + 0 * 2 ^ 0 * down e) q)))
 neither (fin false m e) h p q = sym (round-zero binary64 false m e h (omega (arith, nltb→le (0 * 2 ^ 0 * down e) (m * up e * 1) p)))
 
--- ---- the code
-
 passed : {b : Bool} → b ≡ true → T b
 passed e = subst T (sym e) tt
 
 failed : {b : Bool} → b ≡ false → T (not b)
 failed e = subst (λ (x : Bool). T (not x)) (sym e) tt
 
-held : (c : tie.Start) → T (fits binary64 c.args.x)
-held c = passed c.well-formed.0.1
+pub nearest_whole-requires-then-x-4-clause-above_zero : goal.nearest_whole-requires-then-x-4-clause-above_zero
+nearest_whole-requires-then-x-4-clause-above_zero c = above c.args.x (passed c.if-x-3.true)
 
-nearest-whole-requires : tie.Need-nearest-whole-requires
-nearest-whole-requires c κs = (passed c.before.if1.true, passed c.if2.true)
+pub returns-else-x-2 : goal.returns-else-x-2
+returns-else-x-2 c = large c.args.x (passed c.well_formed.0.1) (passed c.if-x.true) (failed c.if-x-2.false)
 
-nearest-whole-requires-2 : tie.Need-nearest-whole-requires-2
-nearest-whole-requires-2 c κs = (above c.before.before.before.args.x (passed c.before.if3.true), passed c.if4.true)
+pub returns-then-x-4 : goal.returns-then-x-4
+returns-then-x-4 c = ap neg c.nearest_whole-then-x-4.ensures ∙ turned c.args.x
 
-returns : tie.Need-returns
-returns c = search rules
+pub returns-else-x-4 : goal.returns-else-x-4
+returns-else-x-4 c =
+    let x = c.args.x in
+    sym (neg-neg x) ∙ ap neg (large (neg x) (neg-fits binary64 x (passed c.well_formed.0.1)) (above x (passed c.if-x-3.true)) (failed c.if-x-4.false)) ∙ turned x
 
-returns-2 : tie.Need-returns-2
-returns-2 c = large c.before.before.args.x (held c.before.before) (passed c.before.if1.true) (failed c.if2.false)
-
-returns-3 : tie.Need-returns-3
-returns-3 c = ap neg c.nearest-whole2.ensures ∙ turned c.before.before.before.before.args.x
-
-returns-4 : tie.Need-returns-4
-returns-4 c =
-    let x = c.before.before.before.args.x in
-    sym (neg-neg x) ∙ ap neg (large (neg x) (neg-fits binary64 x (held c.before.before.before)) (above x (passed c.before.if3.true)) (failed c.if4.false)) ∙ turned x
-
-returns-5 : tie.Need-returns-5
-returns-5 c = neither c.before.before.args.x (held c.before.before) (failed c.before.if1.false) (failed c.if3.false)
-
-pub round-spec : {M : Type 1} → statement M
-round-spec =
-    tie.close
-    (tie.spec
-    nearest-whole-requires
-    nearest-whole-requires-2
-    returns
-    returns-2
-    returns-3
-    returns-4
-    returns-5)
+pub returns-else-x-3 : goal.returns-else-x-3
+returns-else-x-3 c = neither c.args.x (passed c.well_formed.0.1) (failed c.if-x.false) (failed c.if-x-3.false)

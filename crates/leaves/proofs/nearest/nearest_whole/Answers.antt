@@ -12,10 +12,7 @@ use Rattle.leaves.specs.Constants.{plusZero}
 use Rattle.leaves.specs.Round.{nearestWhole, roundOf}
 use Rattle.leaves.proofs.Packing.{prec-hid}
 use Rattle.leaves.proofs.Values.{held as in-format, shifted}
-use Rattle.leaves.proofs.nearest.nearest_whole.Statement.{statement}
-use Rattle.leaves.proofs.nearest.nearest_whole.Tie as tie
-
--- ---- twice a value
+use Rattle.leaves.proofs.nearest.nearest_whole.Goals as goal
 
 -- x units are twice a / c, which is below b
 bounded : (x a c l b : ℕ) → 0 < l → 2 * a * l ≡ x * c → a < b * c → x < b * 2 * l
@@ -49,8 +46,6 @@ double f m e h small =
   where
     twice-units : (m p c : ℕ) → 2 * (m * p * c) ≡ m * (p * 2) * c
     twice-units m p c = simp (mul_assoc, mul_comm, mul_left_comm)
-
--- ---- the whole part
 
 cut : (y : Float) (a c : ℕ) → 0 < c → HasValue y false a c → a < 2 ^ 53 * c → T (lt (fin true 1 (pos 0)) y) × T (lt y (fin false 1 (pos 64))) × (to_unsigned 64 y ≡ a / c)
 unfolding lt to_unsigned
@@ -92,31 +87,28 @@ halved (fin false m e) h p q =
       is = ap (λ (n : ℕ). round binary64 false ((n + 1) / 2) 1) k.2 ∙ ap (λ (n : ℕ). round binary64 false n 1) (halves a c C);
     }
 
--- ---- the code
+held : (c : goal.Start) → T (fits binary64 c.args.x)
+held c = subst T (sym c.well_formed.0.1) tt
 
-held : (c : tie.Start) → T (fits binary64 c.args.x)
-held c = subst T (sym c.well-formed.0.1) tt
+at : (c : goal.Start) → Halved c.args.x
+at c = halved c.args.x (held c) c.requires.above_zero c.requires.below
 
-at : (c : tie.Start) → Halved c.args.x
-at c = halved c.args.x (held c) c.requires.0 c.requires.1
+pub truncating_f64_to_u64-halves-requires-clause-lower_bound : goal.truncating_f64_to_u64-halves-requires-clause-lower_bound
+truncating_f64_to_u64-halves-requires-clause-lower_bound c = (at c).lower
 
-truncating-f64-to-u64-requires : tie.Need-truncating-f64-to-u64-requires
-truncating-f64-to-u64-requires c κs = ((at c).lower, (at c).upper)
+pub truncating_f64_to_u64-halves-requires-clause-upper_bound : goal.truncating_f64_to_u64-halves-requires-clause-upper_bound
+truncating_f64_to_u64-halves-requires-clause-upper_bound c = (at c).upper
 
-add-result : tie.Need-overflow-add-result
-add-result c = omega (arith, (at c.before).small)
+pub overflow_add-result : goal.overflow_add-result
+overflow_add-result c = omega (arith, (at c.before).small)
 
 in-float : (n : ℕ) → n ≤ 2 ^ 53 → T (in_float binary64 (pos n))
 unfolding in_float
 in-float n h = le→leb n (2 ^ 53) h
 
-int-to-float-result : tie.Need-int-to-float-result
-int-to-float-result c = in-float _ (omega (arith, (at c.before.before).small, c.before.truncating-f64-to-u64.ensures))
+pub int_to_float-result : goal.int_to_float-result
+int_to_float-result c = in-float _ (omega (arith, (at c.before.before).small, c.truncating_f64_to_u64-halves.ensures))
 
-returns : tie.Need-returns
+pub returns : goal.returns
 unfolding of_int
-returns c = ap (λ (n : ℕ). round binary64 false ((n + 1) / 2) 1) c.before.truncating-f64-to-u64.ensures ∙ (at c.before.before).is
-
-pub nearest-whole-spec : {M : Type 1} → statement M
-nearest-whole-spec =
-    tie.close (tie.spec truncating-f64-to-u64-requires add-result int-to-float-result returns)
+returns c = ap (λ (n : ℕ). round binary64 false ((n + 1) / 2) 1) c.truncating_f64_to_u64-halves.ensures ∙ (at c.before.before).is

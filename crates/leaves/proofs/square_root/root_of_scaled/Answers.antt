@@ -1,0 +1,23 @@
+-- `leaves::square_root::root_of_scaled`: an odd exponent gives one of its twos to the significand.
+use Rattle.std.proofs.Common.{◌≡◌, ℕ, suc, ◌*◌, ◌/◌, ◌%◌, ◌^◌, sym, ap, ◌∙◌, mul_assoc, arith, rules}
+use native.Mathlib.Nat.{pow-succ'}
+use Rattle.leaves.proofs.PackedRoots.{at-fraction}
+use Rattle.leaves.proofs.square_root.root_of_scaled.Goals as goal
+
+even : (s e : ℕ) → e % 2 ≡ 0 → s * 2 ^ (2 * (e / 2)) ≡ s * 2 ^ e
+even s e h = ap (λ (k : ℕ). s * 2 ^ k) (whole e h)
+  where
+    whole : (e : ℕ) → e % 2 ≡ 0 → 2 * (e / 2) ≡ e
+    whole e h = omega arith
+
+odd : (s e : ℕ) → (e % 2 ≡ 0 → ⊥) → s * 2 * 2 ^ (2 * (e / 2)) ≡ s * 2 ^ e
+odd s e h = mul_assoc s 2 (2 ^ (2 * (e / 2))) ∙ ap (λ (z : ℕ). s * z) (sym (pow-succ' 2 (2 * (e / 2))) ∙ ap (λ (k : ℕ). 2 ^ k) (whole e h))
+  where
+    whole : (e : ℕ) → (e % 2 ≡ 0 → ⊥) → suc (2 * (e / 2)) ≡ e
+    whole e h = omega arith
+
+pub returns-else-exponent-eq0 : goal.returns-else-exponent-eq0
+returns-else-exponent-eq0 c =
+    let s = c.args.significand in
+    let e = c.args.exponent in
+    at-fraction c.root_of_even-else-exponent-eq0.result (s * 2 * 2 ^ (2 * (e / 2))) (s * 2 ^ e) 2096 (odd s e c.if-exponent-eq0.false) c.root_of_even-else-exponent-eq0.ensures

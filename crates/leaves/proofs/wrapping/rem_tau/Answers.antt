@@ -1,0 +1,11 @@
+-- `leaves::wrapping::rem_tau` is `remTau`: the two arms are the two of `lifted`.
+use Rattle.leaves.specs.Wrap.{lifted, remTau}
+use Rattle.leaves.proofs.wrapping.rem_tau.Goals as goal
+
+pub returns-then-rest : goal.returns-then-rest
+unfolding remTau lifted
+returns-then-rest c = rw c.if-rest.true
+
+pub returns-else-rest : goal.returns-else-rest
+unfolding remTau lifted
+returns-else-rest c = rw c.if-rest.false
