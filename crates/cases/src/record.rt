@@ -12,7 +12,7 @@ const MOST_PLACES: usize = 6600;
 
 // The next record of a file: a call's sheet length, phase and list length; a file that ends within a head or
 // has a length above the longest; a file that has ended.
-#[derive(Drop)]
+#[derive(Clone, Copy)]
 pub enum Head {
     Call(usize, u32, usize),
     Broken,

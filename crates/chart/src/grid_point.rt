@@ -11,7 +11,7 @@ use leaves::constants::CLEARANCE_LIMIT;
 use search::Candidate;
 
 // The frame of a sheet and its chosen grid point, or the number of the check that refuses it.
-#[derive(Drop)]
+#[derive(Clone, Copy)]
 pub enum Found {
     Chosen(Frame, Candidate),
     Refused(u32),

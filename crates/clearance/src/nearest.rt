@@ -16,7 +16,7 @@ use points::Segment;
 const FEW_NUMBERS: usize = 272;
 
 // The larger key, and the place of a segment that has it or that stopped the scan.
-#[derive(Drop)]
+#[derive(Clone, Copy)]
 pub struct Near {
     pub key: f64,
     pub place: usize,

@@ -7,7 +7,7 @@ ghost use Rattle.coverage.specs.Lines.{turnAt, Turning};
 use points::{keeps_order, part, whole_turns};
 
 // Turns, and a column up to which they serve.
-#[derive(Drop)]
+#[derive(Clone, Copy)]
 pub(crate) struct ColumnTurn {
     pub by: f64,
     pub until: u32,

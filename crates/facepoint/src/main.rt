@@ -25,7 +25,7 @@ const ROOM: usize = 65537;
 const LINE: usize = 81;
 
 // How many bytes the input has, as far as the buffer goes; or a read failed.
-#[derive(Drop)]
+#[derive(Clone, Copy)]
 enum Input {
     Bytes(usize),
     Failed,

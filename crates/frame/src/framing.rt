@@ -13,7 +13,7 @@ use leaves::constants::{PI, SCALE_LIMIT, TAU};
 
 // What rules 4 to 9 ask of a sheet beside its points: the box's least u and v, the scales, P, and
 // whether the chart is periodic and a torus band.
-#[derive(Drop)]
+#[derive(Clone, Copy)]
 pub struct Frame {
     pub least_u: f64,
     pub least_v: f64,

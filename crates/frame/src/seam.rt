@@ -8,7 +8,7 @@ use crate::framing::{Frame, frame_of, joins_refusal};
 use crate::prepare::prepare;
 
 // The frame of a sheet that passes the joins, or the number of the check that refuses it.
-#[derive(Drop)]
+#[derive(Clone, Copy)]
 pub enum Framed {
     Ready(Frame),
     Refused(u32),

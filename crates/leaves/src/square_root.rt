@@ -16,7 +16,7 @@ ghost use Rattle.leaves.specs.Root.{rootOf};
 const HIDDEN: u64 = 0x10_0000_0000_0000; // 2^52, the weight of a normal number's leading digit
 
 // The digits of an integer root, and the rest: what is left of the radicand.
-#[derive(Drop)]
+#[derive(Clone, Copy)]
 pub(crate) struct RootDigits {
     pub root: u64,
     pub rest: u64,

@@ -9,7 +9,7 @@ ghost use Rattle.physical.specs.Stages.{axesOf, onAxesOf};
 use space::{Place, cross};
 
 // A plane's origin and its axes; the v axis is normal cross u axis.
-#[derive(Drop)]
+#[derive(Clone, Copy)]
 pub(crate) struct Axes {
     pub(crate) origin: Place,
     pub(crate) u_axis: Place,

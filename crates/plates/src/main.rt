@@ -31,7 +31,7 @@ const SPACE: u8 = 32;
 const MOST_PLATES: u64 = 10000;
 
 // What the next plate of a file showed.
-#[derive(Drop)]
+#[derive(Clone, Copy)]
 enum Outcome {
     Written,
     Broken,

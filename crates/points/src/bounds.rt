@@ -6,7 +6,7 @@ ghost use Rattle.points.specs.Bounds.{boxOf, goesAround};
 use leaves::constants::PI;
 
 // The least and the greatest u and v of points.
-#[derive(Drop)]
+#[derive(Clone, Copy)]
 pub struct Box {
     pub least_u: f64,
     pub least_v: f64,

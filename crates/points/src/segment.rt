@@ -1,7 +1,7 @@
 // A segment, by value (rule 6).
 
 // From a to b.
-#[derive(Drop)]
+#[derive(Clone, Copy)]
 pub struct Segment {
     pub a_u: f64,
     pub a_v: f64,

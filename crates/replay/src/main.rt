@@ -32,7 +32,7 @@ const MOST_RECORDS: u64 = 100000;
 const MOST_FRONT: usize = 1024;
 
 // The call that a file's records are of.
-#[derive(Drop)]
+#[derive(Clone, Copy)]
 enum Call {
     Chart,
     ImagePick,
@@ -46,7 +46,7 @@ enum Call {
 }
 
 // What the next record showed: a point or a refusal, and whether it is the record's.
-#[derive(Drop)]
+#[derive(Clone, Copy)]
 enum Outcome {
     Point(bool),
     Refusal(bool),
@@ -55,7 +55,7 @@ enum Outcome {
 }
 
 // How many records were read, how many of the answers are points, and how many are wrong.
-#[derive(Drop)]
+#[derive(Clone, Copy)]
 struct Tally {
     read: u64,
     points: u64,

@@ -13,14 +13,14 @@ use leaves::constants::{MICRO, PI, TAU};
 const MOST_OF_EITHER: usize = 256;
 
 // An empty stretch between two corner angles, and where it begins.
-#[derive(Drop)]
+#[derive(Clone, Copy)]
 pub struct Stretch {
     pub gap: f64,
     pub from: f64,
 }
 
 // The least and the greatest of numbers.
-#[derive(Drop)]
+#[derive(Clone, Copy)]
 pub struct Extent {
     pub lowest: f64,
     pub highest: f64,

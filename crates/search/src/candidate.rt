@@ -5,7 +5,7 @@ ghost use Rattle.search.specs.Search.{better, counted};
 use points::part;
 
 // The chosen grid point, its clearance, and the number of covered grid points.
-#[derive(Drop)]
+#[derive(Clone, Copy)]
 pub struct Candidate {
     pub u: f64,
     pub v: f64,

@@ -14,7 +14,7 @@ use clearance::{NUMBERS, put_segment};
 use points::{Segment, part};
 
 // The u of a copy's two ends.
-#[derive(Drop)]
+#[derive(Clone, Copy)]
 pub(crate) struct CopyEnds {
     pub a: f64,
     pub b: f64,

@@ -20,7 +20,7 @@ use points::part;
 
 // The best grid point so far; the key that its clearance is the hypotenuse of; and the place of the segment
 // that told of the grid point before, which is a good one to ask first.
-#[derive(Drop)]
+#[derive(Clone, Copy)]
 pub(crate) struct Leader {
     pub best: Candidate,
     pub key: f64,

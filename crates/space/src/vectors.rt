@@ -4,7 +4,7 @@ ghost use Rattle.space.specs.Vectors.{minusOf, dotOf, crossOf, distanceOf, lengt
 
 use leaves::constants::PARALLEL;
 
-#[derive(Drop)]
+#[derive(Clone, Copy)]
 pub struct Place {
     pub x: f64,
     pub y: f64,
@@ -12,7 +12,7 @@ pub struct Place {
 }
 
 // A vector of length one, or none.
-#[derive(Drop)]
+#[derive(Clone, Copy)]
 pub enum UnitVector {
     Along(Place),
     Missing,

@@ -10,7 +10,7 @@ use sides::{place_of, sides_beyond, sides_wrong, sphere_wrong};
 use space::Place;
 
 // The directions of a side's two ends from the sphere's centre, in the order of the coedge.
-#[derive(Drop)]
+#[derive(Clone, Copy)]
 pub struct Arc {
     pub start: Place,
     pub end: Place,

@@ -18,14 +18,14 @@ const LINE: usize = 34;
 const MOST_LINES: u64 = 3000;
 
 // The function under test.
-#[derive(Drop)]
+#[derive(Clone, Copy)]
 enum Leaf {
     Root,
     Round,
 }
 
 // What the next line of a file showed.
-#[derive(Drop)]
+#[derive(Clone, Copy)]
 enum Outcome {
     Right,
     Wrong,
@@ -33,7 +33,7 @@ enum Outcome {
 }
 
 // How many vectors were read, and how many of them came out wrong.
-#[derive(Drop)]
+#[derive(Clone, Copy)]
 struct Tally {
     read: u64,
     wrong: u64,
