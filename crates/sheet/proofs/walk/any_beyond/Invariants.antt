@@ -1,0 +1,18 @@
+use mathlib.Core.Path.{◌≡◌, sym, ap, ◌∙◌}
+use Prim.Native.Nat.{◌+◌, ◌-◌, ◌*◌, ◌≤◌}
+use native.Mathlib.Nat.{sub-zero, add-zero}
+use native.Mathlib.Omega.{arith}
+use lib.ListN.{drop}
+use Rattle.answers.specs.Lists.{anyOf}
+use Rattle.sheet.specs.Layout.{numbers}
+use Rattle.answers.specs.Limits.{beyond}
+use Rattle.answers.proofs.AnyOf.{any-found, any-passed, any-none}
+use Rattle.sheet.proofs.Walks.{numbers-step, numbers-end}
+use borrow.Author.Rules.{rules}
+use Rattle.sheet.proofs.walk.any_beyond.Given as goal
+
+abbrev pub invariant-loop-k : goal.invariant-loop-k
+invariant-loop-k l = (l.k ≤ l.count) × (anyOf (beyond l.limit) (numbers (l.count - l.k) (drop (l.from + 8 * l.k) l.s)) ≡ anyOf (beyond l.limit) (numbers l.count (drop l.from l.s)))
+
+abbrev pub decreases-loop-k : goal.decreases-loop-k
+decreases-loop-k l = l.count - l.k

@@ -1,0 +1,18 @@
+use mathlib.Core.Path.{◌≡◌, sym, ◌∙◌}
+use mathlib.Core.List.{map}
+use Prim.Native.Nat.{◌+◌, ◌-◌, ◌*◌, ◌≤◌}
+use native.Mathlib.Nat.{sub-zero}
+use native.Mathlib.Omega.{arith}
+use lib.ListN.{drop}
+use Rattle.sheet.specs.Layout.{ring, cut}
+use Rattle.sheet.specs.Checks.{coedgesWrong}
+use Rattle.sheet.proofs.Blocks.{block-size-at}
+use Rattle.sheet.proofs.Walks.{wrongFrom, wrong-start, wrong-found, wrong-passed, wrong-end}
+use borrow.Author.Rules.{rules}
+use Rattle.sheet.proofs.walk.coedges_wrong.Given as goal
+
+abbrev pub invariant-loop-k : goal.invariant-loop-k
+invariant-loop-k l = (l.at ≤ 80 + 71401 * l.k) × (l.total ≤ 255 * l.k) × (l.k ≤ l.count) × (wrongFrom l.total (map ring (cut (l.count - l.k) (drop l.at l.s))) ≡ coedgesWrong (map ring (cut l.count (drop l.from l.s))))
+
+abbrev pub decreases-loop-k : goal.decreases-loop-k
+decreases-loop-k l = l.count - l.k

@@ -1,0 +1,20 @@
+use mathlib.Core.Path.{◌≡◌, sym, ap, ◌∙◌}
+use mathlib.Core.Bool.{true}
+use mathlib.Core.List.{map}
+use Prim.Native.Nat.{ℕ, ◌+◌, ◌-◌, ◌≤◌}
+use native.Mathlib.Nat.{sub-zero}
+use native.Mathlib.Omega.{arith}
+use lib.ListN.{length, take, drop}
+use Rattle.answers.specs.Lists.{anyOf}
+use Rattle.sheet.specs.Layout.{blockSize, cut, ring}
+use Rattle.sheet.specs.Checks.{fill, ringWrong}
+use Rattle.answers.proofs.AnyOf.{any-found, any-passed, any-none}
+use Rattle.sheet.proofs.Walks.{rings-step, rings-end, fill-step, fill-room}
+use borrow.Author.Rules.{rules}
+use Rattle.sheet.proofs.walk.rings_wrong.Given as goal
+
+abbrev pub invariant-loop-k : goal.invariant-loop-k
+invariant-loop-k l = (l.at ≤ length l.s) × (l.k ≤ l.count) × (fill (l.count - l.k) (drop l.at l.s) ≡ true) × (anyOf ringWrong (map ring (cut (l.count - l.k) (drop l.at l.s))) ≡ anyOf ringWrong (map ring (cut l.count (drop l.from l.s))))
+
+abbrev pub decreases-loop-k : goal.decreases-loop-k
+decreases-loop-k l = l.count - l.k
