@@ -52,7 +52,7 @@ moved-point-clear kind previous p h = (
 follow-clear : (kind : ℕ) (previous : Point) (ps : List Point) → All ClearPoint ps → All ClearPoint (follow kind previous ps)
 unfolding follow
 follow-clear kind previous [] h = tt
-follow-clear kind previous (p ∷ ps) h = (moved-point-clear kind previous p h.0, follow-clear kind _ ps h.1)
+follow-clear kind previous (p ∷ ps) h = (moved-point-clear kind previous p h.0, follow-clear kind (moved kind previous p) ps h.1)
 
 pub unrolled-clear : (kind : ℕ) (ps : List Point) → All ClearPoint ps → All ClearPoint (unrolled kind ps)
 unfolding unrolled
@@ -72,7 +72,7 @@ moved-clear kind phase ps h = unrolled-clear kind (map (wrapped phase) ps) (all-
 length-follow : (kind : ℕ) (previous : Point) (ps : List Point) → length (follow kind previous ps) ≡ length ps
 unfolding follow
 length-follow kind previous [] = refl
-length-follow kind previous (p ∷ ps) = ap suc (length-follow kind _ ps)
+length-follow kind previous (p ∷ ps) = ap suc (length-follow kind (moved kind previous p) ps)
 
 pub length-unrolled : (kind : ℕ) (ps : List Point) → length (unrolled kind ps) ≡ length ps
 unfolding unrolled

@@ -1,0 +1,9 @@
+-- `points::joins::is_wide` is `wide` of the join.
+use borrow.Author.Rules.{rules}
+use Rattle.leaves.proofs.ConstantBits.{joinLimit-bits}
+use Rattle.points.specs.Joins.{gap, wide}
+use Rattle.points.proofs.joins.is_wide.Goals as goal
+
+pub returns : goal.returns
+unfolding wide gap
+returns c = rw (← joinLimit-bits, c.hypot.ensures, c.gap_u.ensures)

@@ -1,0 +1,16 @@
+use Prim.Native.Nat.{◌+◌, ◌*◌, ◌-◌, ◌≤◌}
+use native.Mathlib.Nat.{sub-zero}
+use native.Mathlib.Omega.{arith}
+use borrow.Author.Rules.{rules}
+use lib.ListN.{drop, length-take, length-drop}
+use Rattle.sheet.specs.Content.{ringPoints}
+use Rattle.sheet.specs.Layout.{coedges}
+use Rattle.points.proofs.InPlace.{Written, none-written}
+use Rattle.points.proofs.BlockPoints.{ring-end, coedge-written, ring-read, ring-unread}
+use Rattle.points.proofs.ring.read.Given as goal
+
+abbrev pub invariant-loop-k : goal.invariant-loop-k
+invariant-loop-k l = (l.k ≤ l.count) × Written l.initial.points l.points (17 * l.k) (ringPoints (coedges (l.count - l.k) (drop (1 + 280 * l.k) l.block))) (ringPoints (coedges l.count (drop 1 l.block)))
+
+abbrev pub decreases-loop-k : goal.decreases-loop-k
+decreases-loop-k l = l.count - l.k

@@ -1,0 +1,15 @@
+use Prim.Native.Nat.{◌+◌, ◌*◌, ◌-◌, ◌≤◌}
+use native.Mathlib.Nat.{add-zero}
+use native.Mathlib.Omega.{arith}
+use borrow.Author.Rules.{rules}
+use lib.ListN.{drop, length-set}
+use Rattle.sheet.specs.Layout.{points as pointsOf}
+use Rattle.points.proofs.InPlace.{Written, none-written, point-written, all-filled}
+use Rattle.points.proofs.BlockPoints.{points-step, points-end}
+use Rattle.points.proofs.ring.read_coedge.Given as goal
+
+abbrev pub invariant-loop-k : goal.invariant-loop-k
+invariant-loop-k l = (l.k ≤ 17) × Written l.initial.points l.points l.k (pointsOf (17 - l.k) (drop (l.at + 16 * l.k) l.block)) (pointsOf 17 (drop l.at l.block))
+
+abbrev pub decreases-loop-k : goal.decreases-loop-k
+decreases-loop-k l = 17 - l.k
