@@ -7,4 +7,4 @@ use Rattle.facepoint.specs.declared.Input.TheVariants.{Bytes, Failed}
 -- the bytes that were read stand at the buffer's start
 unfoldable pub Within : Input → List ℕ → Type 0
 Within (Bytes n) buffer = IsPrefixLen n buffer
-Within Failed buffer = Unit
+Within (Failed error) buffer = Unit

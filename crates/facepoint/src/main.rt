@@ -1,8 +1,7 @@
 // Reads one plane sheet from standard input and prints the plane pick's answer as one line: `0`, x, y, z and
 // clearance as bits, and the count; or a refusal's number alone. More than 65,536 bytes of input are a 1.
 // Where the input cannot be read there is no answer and no line; that, and a line that cannot be written, is
-// said on standard error. A proved program has no exit status to set: it ends with 0, or by the signal of a
-// pipe that nobody reads.
+// said on standard error, and the program then ends with status 1.
 #![tactic(auto)]
 
 ghost use Rattle.std.specs.Prelude.{◌≡◌, length, take};
@@ -13,7 +12,8 @@ ghost use Rattle.facepoint.specs.Line.{lineOf};
 ghost use Rattle.facepoint.specs.Read.{Within};
 
 use answers::Answer;
-use libc::{STDIN_FILENO, STDOUT_FILENO};
+use std::io::{self, Read};
+use std::process::ExitCode;
 
 // The longest input that is taken for a sheet.
 const MOST_BYTES: usize = 65536;
@@ -24,28 +24,24 @@ const ROOM: usize = 65537;
 // The longest line: a point whose count has ten digits.
 const LINE: usize = 81;
 
-// How many bytes the input has, as far as the buffer goes; or a read failed.
+// How many bytes the input has, as far as the buffer goes; or why a read failed.
 #[derive(Clone, Copy)]
 enum Input {
     Bytes(usize),
-    Failed,
+    Failed(io::Error),
 }
 
 // Reads to the end of the input, or until the buffer is full.
-fn read_input(fd: i32, buffer: &mut [u8]) -> Input
+fn read_input<R: Read>(reader: &mut R, buffer: &mut [u8]) -> Input
     ensures { Within result buffer.new }
 {
     let mut n = 0;
     while n < buffer.len() {
-        let got = libc::read(fd, &mut buffer[n..]);
-        if got < 0 {
-            return Input::Failed;
+        match reader.read(&mut buffer[n..]) {
+            Ok(0) => break,
+            Ok(more) => n += more,
+            Err(error) => return Input::Failed(error),
         }
-        let more = io::count(got, &buffer[n..]);
-        if more == 0 {
-            break;
-        }
-        n += more;
     }
     Input::Bytes(n)
 }
@@ -74,19 +70,26 @@ fn put_line(answer: Answer, page: &mut [u8]) -> usize
     }
 }
 
-fn print_line(answer: Answer) {
+fn print_line(rt: &impl Print, answer: Answer) -> io::Result<()> {
     let mut page = [0u8; LINE];
     let n = put_line(answer, &mut page);
-    if !io::write_all(STDOUT_FILENO, &page[..n]) {
-        os::fail(b"facepoint: standard output");
-    }
+    rt.write_all(&page[..n])
 }
 
-fn main() {
+// Says on standard error what failed, and why.
+fn fail(rt: &impl Eprint, what: &str, error: io::Error) -> ExitCode {
+    let _ = eprintln!(rt; "facepoint: {what}: {error}");
+    ExitCode::FAILURE
+}
+
+fn main(rt: HostRuntime) -> ExitCode {
     let mut buffer = [0u8; ROOM];
-    let input = read_input(STDIN_FILENO, &mut buffer);
+    let input = read_input(&mut rt.stdin(), &mut buffer);
     match input {
-        Input::Bytes(n) => print_line(answer_to(&buffer[..n])),
-        Input::Failed => os::fail(b"facepoint: standard input"),
+        Input::Bytes(n) => match print_line(&rt, answer_to(&buffer[..n])) {
+            Ok(()) => ExitCode::SUCCESS,
+            Err(error) => fail(&rt, "standard output", error),
+        },
+        Input::Failed(error) => fail(&rt, "standard input", error),
     }
 }

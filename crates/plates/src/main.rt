@@ -3,15 +3,19 @@
 // the images (f64), all big-endian. Its line is the name, the status, of a point also x, y, z and clearance
 // as bits and the count, and of the chart a number that every place of the list goes into. rust/oracle made
 // the plates and says their lines (make_plates). A missing file leaves no line, and a file that is cut off
-// or broken ends with the line `broken`.
+// or broken ends with the line `broken`. Where the file cannot be read, or a line cannot be written, that is
+// said on standard error, and the program ends with status 1.
 #![tactic(auto)]
 
 ghost use Rattle.std.specs.Prelude.{◌≡◌, ℕ, ◌-◌, ◌<◌, ◌≤◌, length, get_or};
 ghost use Rattle.io.specs.Counts.{IsPrefixLen};
 
 use answers::Answer;
-use cases::{HEAD_SIZE, Head, UNWRITTEN};
-use libc::STDOUT_FILENO;
+use cases::{HEAD_SIZE, Head, UNWRITTEN, read_full};
+use std::fs;
+use std::io::{self, Read};
+use std::process::ExitCode;
+use std::rt::Files;
 
 const NAME_SIZE: usize = 32;
 
@@ -66,72 +70,87 @@ fn put_answer(answer: Answer, page: &mut [u8]) -> usize
     }
 }
 
-fn print_answer(answer: Answer) {
+fn print_answer(rt: &impl Print, answer: Answer) -> io::Result<()> {
     let mut page = [0u8; 80];
     let n = put_answer(answer, &mut page);
-    io::write_all(STDOUT_FILENO, &page[..n]);
+    rt.write_all(&page[..n])
 }
 
-fn print_hex(n: u64) {
+fn print_hex(rt: &impl Print, n: u64) -> io::Result<()> {
     let mut page = [0u8; 16];
     text::put_hex(n, 0, &mut page);
-    io::write_all(STDOUT_FILENO, &page);
+    rt.write_all(&page)
 }
 
-fn print_name(name: &[u8]) {
+fn print_name(rt: &impl Print, name: &[u8]) -> io::Result<()> {
     let n = before_spaces(name);
-    io::write_all(STDOUT_FILENO, &name[..n]);
-    io::write_all(STDOUT_FILENO, b": ");
+    rt.write_all(&name[..n])?;
+    rt.write_all(b": ")
 }
 
 // Makes a plate's call of the chart, and writes its line.
-fn print_chart(name: &[u8], sheet: &[u8], phase: u32, list: &mut [f64]) {
+fn print_chart(
+    rt: &impl Print,
+    name: &[u8],
+    sheet: &[u8],
+    phase: u32,
+    list: &mut [f64],
+) -> io::Result<()> {
     cases::fill(list, UNWRITTEN);
     let answer = chart::chart(sheet, phase, list);
-    print_name(name);
-    print_answer(answer);
-    io::write_all(STDOUT_FILENO, b" ");
-    print_hex(cases::check_sum(list));
-    io::write_all(STDOUT_FILENO, b"\n");
+    print_name(rt, name)?;
+    print_answer(rt, answer)?;
+    rt.write_all(b" ")?;
+    print_hex(rt, cases::check_sum(list))?;
+    rt.write_all(b"\n")
 }
 
-fn print_pick(name: &[u8], answer: Answer) {
-    print_name(name);
-    print_answer(answer);
-    io::write_all(STDOUT_FILENO, b"\n");
+fn print_pick(rt: &impl Print, name: &[u8], answer: Answer) -> io::Result<()> {
+    print_name(rt, name)?;
+    print_answer(rt, answer)?;
+    rt.write_all(b"\n")
 }
 
 // Reads the plate's sheet and images, makes its call and writes its line.
-fn run_call(
-    fd: i32,
+fn run_call<R: Read>(
+    rt: &impl Print,
+    file: &mut R,
     name: &[u8],
     call: u32,
     sheet: &mut [u8],
     phase: u32,
     list: &mut [f64],
     numbers: &mut [u8],
-) -> Outcome {
-    if io::read_full(fd, sheet) != sheet.len() {
-        return Outcome::Broken;
+) -> io::Result<Outcome> {
+    if read_full(file, sheet)? != sheet.len() {
+        return Ok(Outcome::Broken);
     }
     if call == CHART {
-        print_chart(name, sheet, phase, list);
+        print_chart(rt, name, sheet, phase, list)?;
     } else if call == IMAGE_PICK {
-        if io::read_full(fd, numbers) != numbers.len() {
-            return Outcome::Broken;
+        if read_full(file, numbers)? != numbers.len() {
+            return Ok(Outcome::Broken);
         }
         cases::load(list, numbers);
-        print_pick(name, picker::image_pick(sheet, phase, list));
+        print_pick(rt, name, picker::image_pick(sheet, phase, list))?;
     } else if call == PLANE_PICK {
-        print_pick(name, picker::plane_pick(sheet));
+        print_pick(rt, name, picker::plane_pick(sheet))?;
     } else {
-        return Outcome::Broken;
+        return Ok(Outcome::Broken);
     }
-    Outcome::Written
+    Ok(Outcome::Written)
 }
 
 // Lends a call its room: the sheet, the list, and the list's numbers as the file has them.
-fn lend(fd: i32, name: &[u8], call: u32, bytes: usize, phase: u32, places: usize) -> Outcome
+fn lend<R: Read>(
+    rt: &impl Print,
+    file: &mut R,
+    name: &[u8],
+    call: u32,
+    bytes: usize,
+    phase: u32,
+    places: usize,
+) -> io::Result<Outcome>
     requires bytes_bound { bytes ≤ 40000 }
     requires places_bound { places ≤ 6600 }
 {
@@ -140,7 +159,8 @@ fn lend(fd: i32, name: &[u8], call: u32, bytes: usize, phase: u32, places: usize
     let mut numbers = [0u8; 52800];
     let size = 8 * places;
     run_call(
-        fd,
+        rt,
+        file,
         name,
         call,
         &mut sheet[..bytes],
@@ -150,54 +170,57 @@ fn lend(fd: i32, name: &[u8], call: u32, bytes: usize, phase: u32, places: usize
     )
 }
 
-fn run_plate(fd: i32) -> Outcome {
+fn run_plate<R: Read>(rt: &impl Print, file: &mut R) -> io::Result<Outcome> {
     let mut front = [0u8; FRONT_SIZE];
-    let got = io::read_full(fd, &mut front);
+    let got = read_full(file, &mut front)?;
     if got == 0 {
-        return Outcome::Ended;
+        return Ok(Outcome::Ended);
     }
     if got < FRONT_SIZE {
-        return Outcome::Broken;
+        return Ok(Outcome::Broken);
     }
     let call = cases::u32_at(&front, NAME_SIZE);
     let mut bytes = [0u8; HEAD_SIZE];
-    let left = io::read_full(fd, &mut bytes);
+    let left = read_full(file, &mut bytes)?;
     let head = cases::head_of(&bytes[..left]);
     match head {
         Head::Call(size, phase, places) => {
-            lend(fd, &front[..NAME_SIZE], call, size, phase, places)
+            lend(rt, file, &front[..NAME_SIZE], call, size, phase, places)
         }
-        Head::Broken => Outcome::Broken,
-        Head::Ended => Outcome::Broken,
+        Head::Broken => Ok(Outcome::Broken),
+        Head::Ended => Ok(Outcome::Broken),
     }
 }
 
-fn run_plates(fd: i32) {
+fn run_plates<R: Read>(rt: &impl Print, file: &mut R) -> io::Result<()> {
     let mut read: u64 = 0;
     while read < MOST_PLATES {
-        let outcome = run_plate(fd);
+        let outcome = run_plate(rt, file)?;
         match outcome {
             Outcome::Written => {}
             Outcome::Broken => {
-                io::write_all(STDOUT_FILENO, b"broken\n");
+                rt.write_all(b"broken\n")?;
                 break;
             }
             Outcome::Ended => break,
         }
         read += 1;
     }
+    Ok(())
 }
 
-fn run_file(name: &[u8]) {
-    let fd = os::open_read(name);
-    if fd < 0 {
-        os::fail(name);
-        return;
+fn run_file(rt: &(impl Files + Print), name: &str) -> io::Result<()> {
+    let mut file = fs::open(rt, name)?;
+    run_plates(rt, &mut file)
+}
+
+fn main(rt: HostRuntime) -> ExitCode {
+    let name = "plates";
+    match run_file(&rt, name) {
+        Ok(()) => ExitCode::SUCCESS,
+        Err(error) => {
+            let _ = eprintln!(rt; "{name}: {error}");
+            ExitCode::FAILURE
+        }
     }
-    run_plates(fd);
-    libc::close(fd);
-}
-
-fn main() {
-    run_file(b"plates");
 }

@@ -14,16 +14,20 @@
 // | cylinder_point | heights | | angles |
 // | placed | transform | | point |
 //
-// rust/oracle made the files (make_replay, make_replay_after). A missing file leaves no line, and a file that
-// is cut off or broken has one wrong answer more.
+// rust/oracle made the files (make_replay, make_replay_after). A file that is cut off or broken has one wrong
+// answer more. One that is missing or cannot be read leaves no line, is said on standard error, and ends the
+// program with status 1.
 #![tactic(auto)]
 
 ghost use Rattle.std.specs.Prelude.{◌≡◌, ◌&&◌, ◌≤◌};
 ghost use Rattle.replay.specs.Recorded.{recorded};
 
 use answers::{Answer, of_direction, of_middle, of_parameter, of_position};
-use cases::{HEAD_SIZE, Head, UNWRITTEN, is_shown, u32_at, u64_at};
-use libc::STDOUT_FILENO;
+use cases::{HEAD_SIZE, Head, UNWRITTEN, is_shown, read_full, u32_at, u64_at};
+use std::fs;
+use std::io::{self, Read};
+use std::process::ExitCode;
+use std::rt::Files;
 
 // A proved loop has to end: this is more than a file has.
 const MOST_RECORDS: u64 = 100000;
@@ -198,29 +202,35 @@ fn judge(
 }
 
 // Reads the rest of a record, and makes its call.
-fn run_call(
-    fd: i32,
+fn run_call<R: Read>(
+    file: &mut R,
     call: Call,
     sheet: &mut [u8],
     phase: u32,
     list: &mut [f64],
     numbers: &mut [u8],
-) -> Outcome {
+) -> io::Result<Outcome> {
     let mut answer = [0u8; 40];
-    if io::read_full(fd, sheet) != sheet.len() {
-        return Outcome::Broken;
+    if read_full(file, sheet)? != sheet.len() {
+        return Ok(Outcome::Broken);
     }
-    if io::read_full(fd, &mut answer) != 40 {
-        return Outcome::Broken;
+    if read_full(file, &mut answer)? != 40 {
+        return Ok(Outcome::Broken);
     }
-    if io::read_full(fd, numbers) != numbers.len() {
-        return Outcome::Broken;
+    if read_full(file, numbers)? != numbers.len() {
+        return Ok(Outcome::Broken);
     }
-    judge(call, sheet, phase, list, &answer, numbers)
+    Ok(judge(call, sheet, phase, list, &answer, numbers))
 }
 
 // Lends a call its room: the sheet, the list, and the list's recorded numbers.
-fn lend(fd: i32, call: Call, bytes: usize, phase: u32, places: usize) -> Outcome
+fn lend<R: Read>(
+    file: &mut R,
+    call: Call,
+    bytes: usize,
+    phase: u32,
+    places: usize,
+) -> io::Result<Outcome>
     requires bytes_bound { bytes ≤ 40000 }
     requires places_bound { places ≤ 6600 }
 {
@@ -229,7 +239,7 @@ fn lend(fd: i32, call: Call, bytes: usize, phase: u32, places: usize) -> Outcome
     let mut numbers = [0u8; 52800];
     let size = 8 * places;
     run_call(
-        fd,
+        file,
         call,
         &mut sheet[..bytes],
         phase,
@@ -238,14 +248,14 @@ fn lend(fd: i32, call: Call, bytes: usize, phase: u32, places: usize) -> Outcome
     )
 }
 
-fn run_record(fd: i32, call: Call) -> Outcome {
+fn run_record<R: Read>(file: &mut R, call: Call) -> io::Result<Outcome> {
     let mut bytes = [0u8; HEAD_SIZE];
-    let got = io::read_full(fd, &mut bytes);
+    let got = read_full(file, &mut bytes)?;
     let head = cases::head_of(&bytes[..got]);
     match head {
-        Head::Call(size, phase, places) => lend(fd, call, size, phase, places),
-        Head::Broken => Outcome::Broken,
-        Head::Ended => Outcome::Ended,
+        Head::Call(size, phase, places) => lend(file, call, size, phase, places),
+        Head::Broken => Ok(Outcome::Broken),
+        Head::Ended => Ok(Outcome::Ended),
     }
 }
 
@@ -255,12 +265,12 @@ fn number(b: bool) -> u64
     if b { 1 } else { 0 }
 }
 
-fn run_records(fd: i32, call: Call) -> Tally {
+fn run_records<R: Read>(file: &mut R, call: Call) -> io::Result<Tally> {
     let mut read: u64 = 0;
     let mut points: u64 = 0;
     let mut wrong: u64 = 0;
     while read < MOST_RECORDS {
-        let outcome = run_record(fd, call);
+        let outcome = run_record(file, call)?;
         match outcome {
             Outcome::Point(right) => {
                 points += 1;
@@ -276,43 +286,48 @@ fn run_records(fd: i32, call: Call) -> Tally {
         }
         read += 1;
     }
-    Tally {
+    Ok(Tally {
         read: read,
         points: points,
         wrong: wrong,
+    })
+}
+
+// Replays the records of a file, and writes how many there were, how many of the answers are points and how
+// many are wrong.
+fn run_file(rt: &(impl Files + Print), name: &str, call: Call) -> io::Result<()> {
+    let mut file = fs::open(rt, name)?;
+    let tally = run_records(&mut file, call)?;
+    println!(rt;
+        "{name}: {} answers, {} points, {} wrong",
+        tally.read, tally.points, tally.wrong
+    )
+}
+
+// Whether the file was replayed and its line written; else it says on standard error what failed.
+fn is_run(rt: &(impl Files + Print + Eprint), name: &str, call: Call) -> bool {
+    match run_file(rt, name, call) {
+        Ok(()) => true,
+        Err(error) => {
+            let _ = eprintln!(rt; "{name}: {error}");
+            false
+        }
     }
 }
 
-fn print_tally(name: &[u8], tally: Tally) {
-    io::write_all(STDOUT_FILENO, name);
-    io::write_all(STDOUT_FILENO, b": ");
-    io::print_decimal(STDOUT_FILENO, tally.read);
-    io::write_all(STDOUT_FILENO, b" answers, ");
-    io::print_decimal(STDOUT_FILENO, tally.points);
-    io::write_all(STDOUT_FILENO, b" points, ");
-    io::print_decimal(STDOUT_FILENO, tally.wrong);
-    io::write_all(STDOUT_FILENO, b" wrong\n");
-}
-
-fn run_file(name: &[u8], call: Call) {
-    let fd = os::open_read(name);
-    if fd < 0 {
-        os::fail(name);
-        return;
+fn main(rt: HostRuntime) -> ExitCode {
+    let mut all = is_run(&rt, "chart", Call::Chart);
+    all &= is_run(&rt, "image_pick", Call::ImagePick);
+    all &= is_run(&rt, "plane_pick", Call::PlanePick);
+    all &= is_run(&rt, "sample_parameter", Call::SampleParameter);
+    all &= is_run(&rt, "direction", Call::Direction);
+    all &= is_run(&rt, "spherical_triangle", Call::SphericalTriangle);
+    all &= is_run(&rt, "point_on", Call::PointOn);
+    all &= is_run(&rt, "cylinder_point", Call::CylinderPoint);
+    all &= is_run(&rt, "placed", Call::Placed);
+    if all {
+        ExitCode::SUCCESS
+    } else {
+        ExitCode::FAILURE
     }
-    let tally = run_records(fd, call);
-    libc::close(fd);
-    print_tally(name, tally);
-}
-
-fn main() {
-    run_file(b"chart", Call::Chart);
-    run_file(b"image_pick", Call::ImagePick);
-    run_file(b"plane_pick", Call::PlanePick);
-    run_file(b"sample_parameter", Call::SampleParameter);
-    run_file(b"direction", Call::Direction);
-    run_file(b"spherical_triangle", Call::SphericalTriangle);
-    run_file(b"point_on", Call::PointOn);
-    run_file(b"cylinder_point", Call::CylinderPoint);
-    run_file(b"placed", Call::Placed);
 }

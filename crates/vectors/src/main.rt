@@ -1,16 +1,21 @@
 // Runs `root` and `round` over the vectors of data/ and counts the answers that differ. A vector is a
 // line of 34 bytes: the argument's bits, a space, the answer's bits, a newline, in capital hexadecimal
 // digits. The hardware's square root and Rust's f64::round made the answers (rust/oracle,
-// make_vectors). Every NaN counts as the same. A file that is missing or short changes the output.
+// make_vectors). Every NaN counts as the same. A file that is short changes the output; one that is missing
+// or cannot be read leaves no line, is said on standard error, and ends the program with status 1.
 // That the constants of `leaves` have their bits is proved, and tried when the program starts.
 #![tactic(auto)]
 
 ghost use Rattle.std.specs.Prelude.{◌≡◌, true, ◌<◌, ◌≤◌};
 ghost use Rattle.std.specs.Float.Ieee.{nan_bits, of_bits};
 ghost use Rattle.std.specs.Float.{binary64};
+ghost use Rattle.std.specs.Io.{ReadsAtMost};
 
 use leaves::constants;
-use libc::STDOUT_FILENO;
+use std::fs;
+use std::io::{self, Read};
+use std::process::ExitCode;
+use std::rt::Files;
 
 const LINE: usize = 34;
 
@@ -99,25 +104,40 @@ fn answer(leaf: Leaf, x: f64) -> f64 {
     }
 }
 
+// Reads until the buffer is full or the file ends. Answers how many bytes it put at the buffer's start.
+fn read_full<R: Read>(file: &mut R, buffer: &mut [u8]) -> io::Result<usize>
+    ensures { ReadsAtMost result buffer.new }
+{
+    let mut n = 0;
+    while n < buffer.len() {
+        let more = file.read(&mut buffer[n..])?;
+        if more == 0 {
+            break;
+        }
+        n += more;
+    }
+    Ok(n)
+}
+
 // Reads a line, and compares the answer for its argument with its answer.
-fn run_line(leaf: Leaf, fd: i32) -> Outcome {
+fn run_line<R: Read>(leaf: Leaf, file: &mut R) -> io::Result<Outcome> {
     let mut line = [0u8; 34];
-    if io::read_full(fd, &mut line) < LINE {
-        return Outcome::Ended;
+    if read_full(file, &mut line)? < LINE {
+        return Ok(Outcome::Ended);
     }
     let x = float(number(&line, 0));
     if same(answer(leaf, x), number(&line, 17)) {
-        Outcome::Right
+        Ok(Outcome::Right)
     } else {
-        Outcome::Wrong
+        Ok(Outcome::Wrong)
     }
 }
 
-fn run_lines(leaf: Leaf, fd: i32) -> Tally {
+fn run_lines<R: Read>(leaf: Leaf, file: &mut R) -> io::Result<Tally> {
     let mut read: u64 = 0;
     let mut wrong: u64 = 0;
     while read < MOST_LINES {
-        let outcome = run_line(leaf, fd);
+        let outcome = run_line(leaf, file)?;
         match outcome {
             Outcome::Right => {}
             Outcome::Wrong => wrong += 1,
@@ -125,46 +145,60 @@ fn run_lines(leaf: Leaf, fd: i32) -> Tally {
         }
         read += 1;
     }
-    Tally {
+    Ok(Tally {
         read: read,
         wrong: wrong,
-    }
+    })
 }
 
 // Runs the vectors of a file, and writes how many there were and how many came out wrong.
-fn run_file(leaf: Leaf, name: &[u8]) {
-    let fd = os::open_read(name);
-    if fd < 0 {
-        os::fail(name);
-        return;
+fn run_file(rt: &(impl Files + Print), leaf: Leaf, name: &str) -> io::Result<()> {
+    let mut file = fs::open(rt, name)?;
+    let tally = run_lines(leaf, &mut file)?;
+    println!(rt; "{name}: {} vectors, {} wrong", tally.read, tally.wrong)
+}
+
+// Whether the file was run and its line written; else it says on standard error what failed.
+fn is_run(rt: &(impl Files + Print + Eprint), leaf: Leaf, name: &str) -> bool {
+    match run_file(rt, leaf, name) {
+        Ok(()) => true,
+        Err(error) => {
+            let _ = eprintln!(rt; "{name}: {error}");
+            false
+        }
     }
-    let tally = run_lines(leaf, fd);
-    libc::close(fd);
-    io::write_all(STDOUT_FILENO, name);
-    io::write_all(STDOUT_FILENO, b": ");
-    io::print_decimal(STDOUT_FILENO, tally.read);
-    io::write_all(STDOUT_FILENO, b" vectors, ");
-    io::print_decimal(STDOUT_FILENO, tally.wrong);
-    io::write_all(STDOUT_FILENO, b" wrong\n");
+}
+
+// Stops the run where ok is false, by a division by zero.
+fn expect(ok: bool)
+    requires { ok ≡ true }
+{
+    let one: u8 = 1;
+    let _quotient = one / (ok as u8);
 }
 
 // The bits that stand beside the constants in leaves/src/constants.rt.
 fn constants_have_their_bits() {
-    check::expect(f64::to_bits(constants::PI) == 0x400921FB54442D18);
-    check::expect(f64::to_bits(constants::TAU) == 0x401921FB54442D18);
-    check::expect(f64::to_bits(constants::DEVIATION_LIMIT) == 0x3F60624DD2F1A9FC);
-    check::expect(f64::to_bits(constants::SCALE_LIMIT) == 0x3D719799812DEA11);
-    check::expect(f64::to_bits(constants::JOIN_LIMIT) == 0x3F1A36E2EB1C432D);
-    check::expect(f64::to_bits(constants::CLEARANCE_LIMIT) == 0x3F847AE147AE147B);
-    check::expect(f64::to_bits(constants::PHYSICAL_LIMIT) == 0x3E7AD7F29ABCAF48);
-    check::expect(f64::to_bits(constants::MICRO) == 0x3EB0C6F7A0B5ED8D);
-    check::expect(f64::to_bits(constants::END_LIMIT) == 0x3EE4F8B588E368F1);
-    check::expect(f64::to_bits(constants::PARALLEL) == 0x3E112E0BE826D695);
-    check::expect(f64::to_bits(constants::DEGENERATE_LIMIT) == 0x3C32725DD1D243AC);
+    expect(f64::to_bits(constants::PI) == 0x400921FB54442D18);
+    expect(f64::to_bits(constants::TAU) == 0x401921FB54442D18);
+    expect(f64::to_bits(constants::DEVIATION_LIMIT) == 0x3F60624DD2F1A9FC);
+    expect(f64::to_bits(constants::SCALE_LIMIT) == 0x3D719799812DEA11);
+    expect(f64::to_bits(constants::JOIN_LIMIT) == 0x3F1A36E2EB1C432D);
+    expect(f64::to_bits(constants::CLEARANCE_LIMIT) == 0x3F847AE147AE147B);
+    expect(f64::to_bits(constants::PHYSICAL_LIMIT) == 0x3E7AD7F29ABCAF48);
+    expect(f64::to_bits(constants::MICRO) == 0x3EB0C6F7A0B5ED8D);
+    expect(f64::to_bits(constants::END_LIMIT) == 0x3EE4F8B588E368F1);
+    expect(f64::to_bits(constants::PARALLEL) == 0x3E112E0BE826D695);
+    expect(f64::to_bits(constants::DEGENERATE_LIMIT) == 0x3C32725DD1D243AC);
 }
 
-fn main() {
+fn main(rt: HostRuntime) -> ExitCode {
     constants_have_their_bits();
-    run_file(Leaf::Root, b"root");
-    run_file(Leaf::Round, b"round");
+    let root = is_run(&rt, Leaf::Root, "root");
+    let round = is_run(&rt, Leaf::Round, "round");
+    if root && round {
+        ExitCode::SUCCESS
+    } else {
+        ExitCode::FAILURE
+    }
 }
