@@ -1,5 +1,5 @@
 // The calls over the C convention: exported functions and nothing else. The archive for Rust or C is
-// target/staticlib/libcapi.a (`rt staticlib capi`). Names carry the prefix facepoint_, since `round`
+// crates/capi/out/libcapi.a (`rt lib capi`). Names carry the prefix facepoint_, since `round`
 // and `hypot` alone would clash with the C library's. A slice goes as a pointer and the number of its
 // elements.
 #![tactic(auto)]
@@ -18,57 +18,57 @@ ghost use Rattle.capi.specs.Convention.{seen, chartSeen, imagePickReturned, plan
 
 use answers::{RESULT_LENGTH, of_direction, of_middle, of_parameter, of_position, put};
 
-// The chart call: the status returned, the five numbers in `result`, the moved points in `points`.
+// The chart call: the status returned, the five numbers in `list`, the moved points in `points`.
 #[unsafe(no_mangle)]
 pub extern "C" fn facepoint_chart(
     sheet: &[u8],
     phase: u32,
     points: &mut [f64],
-    res: &mut [f64],
+    list: &mut [f64],
 ) -> u32
-    ensures { seen (returned result res.new) points.new ≡ chartSeen sheet.now phase points.old res.old }
+    ensures { seen (returned result list.new) points.new ≡ chartSeen sheet.now phase points.old list.old }
 {
-    if res.len() != RESULT_LENGTH {
+    if list.len() != RESULT_LENGTH {
         return 1;
     }
-    put(chart::chart(sheet, phase, points), res)
+    put(chart::chart(sheet, phase, points), list)
 }
 
-// The image pick: the status returned, the five numbers in `result`.
+// The image pick: the status returned, the five numbers in `list`.
 #[unsafe(no_mangle)]
 pub extern "C" fn facepoint_image_pick(
     sheet: &[u8],
     phase: u32,
     images: &[f64],
-    res: &mut [f64],
+    list: &mut [f64],
 ) -> u32
-    ensures { returned result res.new ≡ imagePickReturned sheet.now phase images.now res.old }
+    ensures { returned result list.new ≡ imagePickReturned sheet.now phase images.now list.old }
 {
-    put(picker::image_pick(sheet, phase, images), res)
+    put(picker::image_pick(sheet, phase, images), list)
 }
 
-// The plane pick: the status returned, the five numbers in `result`.
+// The plane pick: the status returned, the five numbers in `list`.
 #[unsafe(no_mangle)]
-pub extern "C" fn facepoint_plane_pick(sheet: &[u8], res: &mut [f64]) -> u32
-    ensures { returned result res.new ≡ planePickReturned sheet.now res.old }
+pub extern "C" fn facepoint_plane_pick(sheet: &[u8], list: &mut [f64]) -> u32
+    ensures { returned result list.new ≡ planePickReturned sheet.now list.old }
 {
-    put(picker::plane_pick(sheet), res)
+    put(picker::plane_pick(sheet), list)
 }
 
 // A curve's nth parameter of 0 to 16 between a and b: the parameter.
 #[unsafe(no_mangle)]
-pub extern "C" fn facepoint_sample_parameter(a: f64, b: f64, n: u32, res: &mut [f64]) -> u32
-    ensures { returned result res.new ≡ returnedOf (sampleParameterOf a b n) res.old }
+pub extern "C" fn facepoint_sample_parameter(a: f64, b: f64, n: u32, list: &mut [f64]) -> u32
+    ensures { returned result list.new ≡ returnedOf (sampleParameterOf a b n) list.old }
 {
-    put(of_parameter(steps::sample_parameter(a, b, n)), res)
+    put(of_parameter(steps::sample_parameter(a, b, n)), list)
 }
 
 // The direction test of twelve numbers, first image, last image, start, end: reverse, keep.
 #[unsafe(no_mangle)]
-pub extern "C" fn facepoint_direction(points: &[f64], res: &mut [f64]) -> u32
-    ensures { returned result res.new ≡ returnedOf (directionOf points.now) res.old }
+pub extern "C" fn facepoint_direction(points: &[f64], list: &mut [f64]) -> u32
+    ensures { returned result list.new ≡ returnedOf (directionOf points.now) list.old }
 {
-    put(of_direction(steps::edge_direction(points)), res)
+    put(of_direction(steps::edge_direction(points)), list)
 }
 
 // The triangle on a sphere, of three numbers and of nineteen a side: x, y, z.
@@ -78,13 +78,13 @@ pub extern "C" fn facepoint_spherical_triangle(
     radius: f64,
     sense: u32,
     sides: &[f64],
-    res: &mut [f64],
+    list: &mut [f64],
 ) -> u32
-    ensures { returned result res.new ≡ returnedOf (triangleListsOf centre.now radius sense sides.now) res.old }
+    ensures { returned result list.new ≡ returnedOf (triangleListsOf centre.now radius sense sides.now) list.old }
 {
     put(
         of_position(triangle::spherical_triangle_of(centre, radius, sense, sides)),
-        res,
+        list,
     )
 }
 
@@ -94,33 +94,33 @@ pub extern "C" fn facepoint_point_on(
     u_axis: &[f64],
     normal: &[f64],
     corners: &[f64],
-    res: &mut [f64],
+    list: &mut [f64],
 ) -> u32
-    ensures { returned result res.new ≡ returnedOf (pointOnOf u_axis.now normal.now corners.now) res.old }
+    ensures { returned result list.new ≡ returnedOf (pointOnOf u_axis.now normal.now corners.now) list.old }
 {
     put(
         of_position(vertex_fallback::point_on(u_axis, normal, corners)),
-        res,
+        list,
     )
 }
 
 // The round fallback: the middle angle, the middle height.
 #[unsafe(no_mangle)]
-pub extern "C" fn facepoint_cylinder_point(heights: &[f64], angles: &[f64], res: &mut [f64]) -> u32
-    ensures { returned result res.new ≡ returnedOf (cylinderPointOf heights.now angles.now) res.old }
+pub extern "C" fn facepoint_cylinder_point(heights: &[f64], angles: &[f64], list: &mut [f64]) -> u32
+    ensures { returned result list.new ≡ returnedOf (cylinderPointOf heights.now angles.now) list.old }
 {
     put(
         of_middle(round_fallback::cylinder_point(heights, angles)),
-        res,
+        list,
     )
 }
 
 // A point by a transform of twelve numbers, row by row: x, y, z.
 #[unsafe(no_mangle)]
-pub extern "C" fn facepoint_placed(transform: &[f64], point: &[f64], res: &mut [f64]) -> u32
-    ensures { returned result res.new ≡ returnedOf (placedOf transform.now point.now) res.old }
+pub extern "C" fn facepoint_placed(transform: &[f64], point: &[f64], list: &mut [f64]) -> u32
+    ensures { returned result list.new ≡ returnedOf (placedOf transform.now point.now) list.old }
 {
-    put(of_position(steps::placed(transform, point)), res)
+    put(of_position(steps::placed(transform, point)), list)
 }
 
 // The IEEE 754 square root: double facepoint_root(double).
