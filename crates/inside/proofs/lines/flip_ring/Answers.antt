@@ -5,16 +5,14 @@ use mathlib.Core.List.{List, ◌++◌}
 use Prim.Native.Nat.{ℕ, ◌≤◌}
 use native.Mathlib.Omega.{arith}
 use lib.ListN.{length, get_or, take, drop}
-use lib.Seq.{length-take-le, get_or-take}
+use lib.Seq.{get_or-take}
 use Rattle.sheet.specs.Content.{Point, pairs}
 use Rattle.answers.specs.Lists.{over}
 use Rattle.answers.proofs.Over.{over-short, over-room}
 use Rattle.inside.specs.Inside.{insideOf}
 use Rattle.inside.specs.Lines.{Holds, byRows, flippedBy}
 use Rattle.inside.proofs.Cells.{flipped-length, all-flipped}
-use borrow.Author.Rules.{rules}
-use Rattle.inside.proofs.lines.flip_ring.Statement.{statement}
-use Rattle.inside.proofs.lines.flip_ring.Tie as tie
+use Rattle.inside.proofs.lines.flip_ring.Goals as goal
 
 front-flipped : (ring : List Point) (cells ys : List Bool) → 961 ≤ length cells → Holds false 961 ys (λ (k : ℕ). xor (get_or (take 961 cells) k false) (insideOf ring (byRows k))) → ys ++ drop 961 cells ≡ over (flippedBy ring cells) cells
 front-flipped ring cells ys h new =
@@ -23,35 +21,12 @@ front-flipped ring cells ys h new =
     ap (λ (l : List Bool). l ++ drop 961 cells) e
     ∙ sym (over-room (flippedBy ring cells) cells n ∙ ap (λ (k : ℕ). flippedBy ring cells ++ drop k cells) (flipped-length ring cells))
 
-returns : tie.Need-returns
-returns c =
-    let x = c.before.before.before.args in
+pub returns-then-cells-lt-GRID_POINTS : goal.returns-then-cells-lt-GRID_POINTS
+returns-then-cells-lt-GRID_POINTS c =
+    let x = c.args in
     sym (over-short (flippedBy (pairs x.ring.now) x.cells.now) x.cells.now (omega (arith, flipped-length (pairs x.ring.now) x.cells.now)))
 
-slice-relend-prefix-flip-cells : tie.Need-slice-relend-prefix-flip-cells
-slice-relend-prefix-flip-cells c = search rules
-
-slice-aggregate-flip-cells : tie.Need-slice-aggregate-flip-cells
-slice-aggregate-flip-cells c = sym (length-take-le 961 c.before.before.before.before.args.cells.now (omega arith))
-
-flip-cells-requires : tie.Need-flip-cells-requires
-flip-cells-requires c κs = length-take-le 961 c.before.before.before.before.args.cells.now (omega arith)
-
-same-length : tie.Need-same-length
-same-length c = search rules
-
-returns-2 : tie.Need-returns-2
-returns-2 c =
-    let x = c.before.before.before.before.before.before.before.args in
-    front-flipped (pairs x.ring.now) x.cells.now _ (omega arith) c.before.before.flip-cells.ensures
-
-pub flip-ring-spec : {M : Type 1} → statement M
-flip-ring-spec =
-    tie.close
-    (tie.spec
-    returns
-    slice-relend-prefix-flip-cells
-    slice-aggregate-flip-cells
-    flip-cells-requires
-    same-length
-    returns-2)
+pub returns : goal.returns
+returns c =
+    let x = c.args in
+    front-flipped (pairs x.ring.now) x.cells.now _ (omega arith) c.flip_cells.ensures
