@@ -1,5 +1,5 @@
 -- Laws about the places of a list: one place more is filled, loaded, compared or added in.
-use Rattle.std.proofs.Common.{◌≡◌, ℕ, zero, suc, ◌+◌, ◌-◌, ◌*◌, ◌%◌, ◌<◌, ◌≤◌, Bool, cond, List, [], ◌∷◌, ◌++◌, length, get_or, drop, set, replicate, sym, refl, ap, ◌∙◌, append-nil, le_of_suc-le-suc, not-suc-le-zero, add-zero, add_assoc, suc-mul, one-mul, add-one, arith, length-append, drop-cons}
+use Rattle.std.proofs.Common.{◌≡◌, ℕ, zero, suc, ◌+◌, ◌-◌, ◌*◌, ◌%◌, ◌<◌, ◌≤◌, Bool, cond, List, [], ◌∷◌, ◌++◌, length, get_or, drop, set, replicate, sym, refl, ap, ◌∙◌, le_of_suc-le-suc, not-suc-le-zero, add-zero, add_assoc, suc-mul, one-mul, add-one, arith, length-append, drop-cons}
 use native.Mathlib.Nat.{zero-mod, add-mod, mod-add-mod}
 use lib.Seq.{drop-length}
 use lib.Ieee.{Float, binary64, of_bits, to_bits}
@@ -16,9 +16,6 @@ fill-suc (suc n) v (x ∷ d) l = ap (λ t. v ∷ t) (fill-suc n v d (le_of_suc-l
 pub fill-more : {A : Type 0} (n : ℕ) (v : A) (d : List A) → n < length d → set (replicate n v ++ drop n d) n v ≡ replicate (n + 1) v ++ drop (n + 1) d
 fill-more n v d l = rw add-one (fill-suc n v d l)
 
-pub fill-end : {A : Type 0} (n : ℕ) (v : A) (d : List A) → n ≡ length d → replicate n v ++ drop n d ≡ replicate (length d) v
-fill-end n v d e = rw (e, drop-length, append-nil)
-
 -- ---- loaded
 
 length-loaded : (n : ℕ) (s : List ℕ) → length (loaded n s) ≡ n
@@ -34,9 +31,6 @@ pub load-more : (k : ℕ) (s : List ℕ) (d : List Float) (v : Float) → k < le
 unfolding loaded
 load-more k s d v h e =
     rw (add-one k, drop-cons d k v h, ← e) (ap (λ (i : ℕ). set (loaded k s ++ (get_or d k v ∷ drop (suc k) d)) i v) (sym (length-loaded k s)) ∙ put-behind (loaded k s) (get_or d k v) v (drop (suc k) d))
-
-pub load-end : (k : ℕ) (s : List ℕ) (d : List Float) → k ≡ length d → loaded k s ++ drop k d ≡ loaded (length d) s
-load-end k s d e = rw (e, drop-length, append-nil)
 
 -- ---- compared
 

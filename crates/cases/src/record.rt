@@ -1,6 +1,6 @@
 // What a recorded call begins with, and the longest that there is.
 ghost use Rattle.std.specs.Prelude.{◌≡◌};
-ghost use Rattle.cases.specs.Record.{head_of};
+ghost use Rattle.cases.specs.Record.{headOf};
 
 use crate::big_endian::u32_at;
 

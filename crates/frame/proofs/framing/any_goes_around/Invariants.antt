@@ -1,0 +1,17 @@
+use mathlib.Core.Path.{◌≡◌, refl, sym, ◌∙◌}
+use Prim.Native.Nat.{◌-◌, ◌≤◌}
+use native.Mathlib.Omega.{arith}
+use lib.ListN.{length, get_or, drop}
+use borrow.Author.Rules.{rules}
+use Rattle.answers.specs.Lists.{anyOf}
+use Rattle.answers.proofs.AnyOf.{any-found, any-passed, any-none}
+use Rattle.points.specs.Bounds.{goesAround}
+use Rattle.frame.specs.Parts.{ringsFrom, Ascends}
+use Rattle.frame.proofs.Rings.{ascends-step, end-bound, rings-step, rings-end}
+use Rattle.frame.proofs.framing.any_goes_around.Given as goal
+
+abbrev pub invariant-loop-k : goal.invariant-loop-k
+invariant-loop-k l = (l.k ≤ length l.ends) × Ascends l.from (drop l.k l.ends) (length l.points) × (anyOf goesAround (ringsFrom l.from (drop l.k l.ends) l.points) ≡ anyOf goesAround (ringsFrom 0 l.ends l.points))
+
+abbrev pub decreases-loop-k : goal.decreases-loop-k
+decreases-loop-k l = length l.ends - l.k

@@ -1,0 +1,20 @@
+use mathlib.Core.List.{List}
+use mathlib.Core.Path.{◌≡◌, refl, sym, ◌∙◌}
+use Prim.Native.Nat.{◌-◌, ◌≤◌}
+use native.Mathlib.Omega.{arith}
+use lib.ListN.{length, get_or, drop}
+use borrow.Author.Rules.{rules}
+use Rattle.sheet.specs.Content.{Point}
+use Rattle.answers.specs.Lists.{anyOf}
+use Rattle.answers.proofs.AnyOf.{any-found, any-passed, any-none}
+use Rattle.points.specs.Joins.{ringOpen, every}
+use Rattle.frame.specs.Parts.{ringsFrom, Ascends}
+use Rattle.frame.specs.Framing.{anyOpen}
+use Rattle.frame.proofs.Rings.{ascends-step, end-bound, rings-step, rings-end}
+use Rattle.frame.proofs.framing.joins_open.Given as goal
+
+abbrev pub invariant-loop-k : goal.invariant-loop-k
+invariant-loop-k l = (l.k ≤ length l.ends) × Ascends l.from (drop l.k l.ends) (length l.points) × (anyOf (λ (r : List Point). ringOpen l.periodic l.scale_u l.scale_v (every 16 0 r) r) (ringsFrom l.from (drop l.k l.ends) l.points) ≡ anyOf (λ (r : List Point). ringOpen l.periodic l.scale_u l.scale_v (every 16 0 r) r) (ringsFrom 0 l.ends l.points))
+
+abbrev pub decreases-loop-k : goal.decreases-loop-k
+decreases-loop-k l = length l.ends - l.k

@@ -1,0 +1,16 @@
+use mathlib.Core.Path.{◌≡◌, refl, ◌∙◌}
+use Prim.Native.Nat.{◌+◌, ◌*◌, ◌-◌, ◌≤◌, ◌<◌}
+use native.Mathlib.Omega.{arith}
+use borrow.Author.Rules.{rules}
+use lib.ListN.{length, drop}
+use Rattle.sheet.proofs.Blocks.{block-size-at}
+use Rattle.frame.specs.Stages.{movedBlocks}
+use Rattle.frame.proofs.Preparing.{Prepared, none-prepared, part-within, ring-room, same-size, ring-prepared, all-moved, all-parted}
+use Rattle.frame.proofs.prepare.prepare.Given as goal
+
+abbrev pub invariant-loop-k : goal.invariant-loop-k
+invariant-loop-k l =
+    (l.k ≤ length l.initial.ends) × (length l.points ≡ length l.initial.points) × (l.at ≤ 80 + 71401 * l.k) × Prepared l.kind l.phase l.s (length l.initial.ends) (movedBlocks l.kind l.phase (length l.initial.ends) (drop l.start l.s)) l.points l.ends l.at l.from l.k
+
+abbrev pub decreases-loop-k : goal.decreases-loop-k
+decreases-loop-k l = length l.initial.ends - l.k

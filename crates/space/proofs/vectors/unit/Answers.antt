@@ -1,0 +1,12 @@
+-- `space::vectors::unit` is `unitOf`: by whether a vector of that length has a unit.
+use mathlib.Core.Path.{sym}
+use Rattle.space.specs.Vectors.{unitOf}
+use Rattle.space.proofs.vectors.unit.Goals as goal
+
+pub returns-then-serves : goal.returns-then-serves
+unfolding unitOf
+returns-then-serves c = rw (sym c.length-size.ensures, sym c.serves.ensures, c.if-serves.true, c.over.ensures)
+
+pub returns-else-serves : goal.returns-else-serves
+unfolding unitOf
+returns-else-serves c = rw (sym c.length-size.ensures, sym c.serves.ensures, c.if-serves.false)
