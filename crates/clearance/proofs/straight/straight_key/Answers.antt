@@ -1,0 +1,15 @@
+-- `clearance::straight::straight_key` is the key of `residual`, operation by operation. Whichever way the test goes, t
+-- is `along`.
+use mathlib.Core.Path.{◌≡◌, ◌∙◌}
+use Rattle.sheet.specs.Content.{point}
+use Rattle.points.specs.Segments.{segmentOf}
+use Rattle.clearance.specs.Clearance.{along, delta, dotOf, residual}
+use Rattle.clearance.specs.Nearest.{keyTo}
+use Rattle.clearance.proofs.straight.straight_key.Goals as goal
+use Rattle.clearance.proofs.straight.straight_key.Goals.{then-length, else-length}
+
+pub returns : goal.returns
+unfolding keyTo residual delta along dotOf
+returns c =
+    let along-is : c.if-length.t ≡ along (point c.args.u c.args.v) (segmentOf c.args.s) = elim c.if-length.branch [ then-length w ↦ w.t-is ∙ rw w.if-length.true w.clamp-t.ensures | else-length w ↦ w.t-is ∙ rw w.if-length.false ] in
+    rw (← along-is) c.key.ensures
