@@ -11,8 +11,7 @@ use mir.Syntax.{w64}
 use mir.Val.{SFits, of_z}
 use mir.ValLaws.{to_z-of_z}
 use Rattle.coverage.specs.Coverage.{oddℤ}
-use Rattle.coverage.proofs.marks.is_odd.Statement.{statement}
-use Rattle.coverage.proofs.marks.is_odd.Tie as tie
+use Rattle.coverage.proofs.marks.is_odd.Goals as goal
 
 negative-fits : (n : ℕ) → n < 2 ^ 63 → SFits w64 (neg_ℤ (pos n))
 negative-fits zero h = record { sfits = h }
@@ -37,11 +36,5 @@ unfolding oddℤ
 odd (pos n) = odd-positive (n % 2) (omega arith)
 odd (negsuc n) = odd-negative (suc n % 2) (omega arith)
 
-rem-result : tie.Need-nonzero-rem-result
-rem-result c = (omega arith, rw (to_z-of_z w64 c.args.n c.ranges.n) (half-fits c.args.n c.ranges.n))
-
-returns : tie.Need-returns
+pub returns : goal.returns
 returns c = rw (to_z-of_z w64 c.args.n c.ranges.n) (odd c.args.n)
-
-pub is-odd-spec : {M : Type 1} → statement M
-is-odd-spec = tie.close (tie.spec rem-result returns)

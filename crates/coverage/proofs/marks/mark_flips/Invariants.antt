@@ -1,0 +1,23 @@
+use mathlib.Core.Path.{◌≡◌, sym, ap, ◌∙◌}
+use mathlib.Core.Bool.{Bool, false, cond}
+use mathlib.Core.List.{List}
+use mathlib.Core.Logic.{⊎_elim}
+use Prim.Native.Nat.{ℕ, ◌-◌}
+use native.Mathlib.Omega.{arith}
+use lib.IntN.{pos}
+use lib.ListN.{get_or}
+use mir.Syntax.{w64}
+use mir.Val.{to_z}
+use Rattle.inside.specs.Lines.{inRows}
+use Rattle.inside.proofs.Cells.{Changed, none-changed, cell-changed, all-changed}
+use Rattle.coverage.specs.Coverage.{coveredBy}
+use Rattle.coverage.proofs.marks.mark_flips.Given as goal
+
+abbrev pub marked : Bool → ℕ → List Bool → ℕ → Bool → Bool
+marked band sense cells k t = coveredBy band sense (cond (get_or cells (inRows k) false) (pos 1) (pos 0))
+
+abbrev pub invariant-loop-k : goal.invariant-loop-k
+invariant-loop-k l = (l.at ≡ inRows l.k) × Changed false 961 (marked l.band l.sense l.cells) l.initial.covered l.k l.covered
+
+abbrev pub decreases-loop-k : goal.decreases-loop-k
+decreases-loop-k l = 961 - l.k
