@@ -2,7 +2,7 @@
 -- the leader after it, whose clearance is that key's hypotenuse; and the candidate is the better of the two, counted.
 use mathlib.Core.Path.{◌≡◌, refl, sym, ap, ◌∙◌}
 use mathlib.Core.Bool.{Bool, true, false, cond, true≢false}
-use mathlib.Core.List.{List}
+use mathlib.Core.List.{List, map}
 use Prim.Native.Nat.{ℕ}
 use lib.Ieee.{Float, inf, lt}
 use Rattle.leaves.specs.Bounds.{largerOf}
@@ -10,8 +10,9 @@ use Rattle.leaves.specs.Hypot.{hypotOfKey}
 use Rattle.leaves.proofs.Choices.{larger-by-test, larger-keeps}
 use Rattle.leaves.specs.Keys.{Key}
 use Rattle.leaves.proofs.Hypotenuses.{larger-hypot}
-use Rattle.points.specs.Grid.{gridPoint}
+use Rattle.points.specs.Grid.{part, gridPoint}
 use Rattle.search.specs.Leading.{Led, Raised}
+use Rattle.clearance.specs.Clearance.{shiftedTo}
 use Rattle.clearance.specs.Nearest.{leastKey}
 use Rattle.search.specs.Search.{better, counted}
 use Rattle.clearance.specs.SegmentLists.{segmentsIn}
@@ -22,6 +23,10 @@ use Rattle.search.proofs.Visits.{better-larger, better-clearance}
 -- the clearance of each grid point, from the segments of a list
 abbrev pub clearTo : List Float → ℕ → ℕ → Float
 clearTo list i j = hypotOfKey (leastKey (gridPoint i j) (inf false) (segmentsIn list))
+
+-- the same from the copies of the segments of a list
+abbrev pub clearIn : Float → List Float → ℕ → ℕ → Float
+clearIn period list i j = hypotOfKey (leastKey (gridPoint i j) (inf false) (map (shiftedTo period (part i)) (segmentsIn list)))
 
 -- ---- the larger of two, where it is not above the first
 
