@@ -22,16 +22,25 @@ pub ascends-bound : (from : ℕ) (ends : List ℕ) (size : ℕ) → Ascends from
 ascends-bound from [] size h = h
 ascends-bound from (end ∷ ends) size h = le_trans h.0 (ascends-bound end ends size h.1)
 
+pub record Within (ends : List ℕ) (k from size : ℕ) : Type 0 where
+  pub up : from ≤ get_or ends k 0
+  pub bound : get_or ends k 0 ≤ size
+  pub rest : Ascends (get_or ends k 0) (drop (k + 1) ends) size
+
 module _ (ends : List ℕ) (k : ℕ) (more : k < length ends) where
   ends-left : drop k ends ≡ get_or ends k 0 ∷ drop (k + 1) ends
   ends-left = rw add-one (drop-cons ends k 0 more)
 
-  pub ascends-step : (from size : ℕ) → Ascends from (drop k ends) size → (from ≤ get_or ends k 0) × Ascends (get_or ends k 0) (drop (k + 1) ends) size
+  ascends-step : (from size : ℕ) → Ascends from (drop k ends) size → (from ≤ get_or ends k 0) × Ascends (get_or ends k 0) (drop (k + 1) ends) size
   ascends-step from size h = rw ends-left at h
 
   -- the end in place k is not past the list
-  pub end-bound : (from size : ℕ) → Ascends from (drop k ends) size → get_or ends k 0 ≤ size
+  end-bound : (from size : ℕ) → Ascends from (drop k ends) size → get_or ends k 0 ≤ size
   end-bound from size h = ascends-bound (get_or ends k 0) (drop (k + 1) ends) size (ascends-step from size h).1
+
+  -- the ring in place k lies within the points, and the ends behind it go up from its own
+  pub within : (from size : ℕ) → Ascends from (drop k ends) size → Within ends k from size
+  within from size h = let step = ascends-step from size h in record { up = step.0; bound = end-bound from size h; rest = step.1 }
 
   -- ---- the rings
 

@@ -1,6 +1,5 @@
 -- `frame::checks::phase_wrong` meets its contract: the tests of the code are those of the definition, and the kind is
 -- the sheet's.
-use borrow.Author.Rules.{rules}
 use borrow.Author.Tests.{eq-eqb, ne_eqb, lt-ltb, le-ltb}
 use Rattle.sheet.specs.Layout.{sheetOf}
 use Rattle.frame.specs.Framing.{phaseWrong}

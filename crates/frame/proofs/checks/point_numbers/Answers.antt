@@ -1,17 +1,14 @@
 -- `frame::checks::point_numbers` counts the numbers of all points. The invariant: those counted and those of the blocks
 -- left are all; a block has at most 71401 bytes, so no place wraps.
 use mathlib.Core.Path.{◌≡◌, ap, ◌∙◌}
-use Prim.Native.Nat.{◌+◌, ◌*◌, ◌-◌, ◌≤◌}
 use native.Mathlib.Nat.{sub-zero, zero-add, add-zero}
 use native.Mathlib.Omega.{arith}
 use lib.ListN.{get_or, drop}
 use lib.Seq.{get_or-drop}
-use borrow.Author.Rules.{rules}
-use Rattle.sheet.specs.Layout.{headSize, kind, cut, sheetOf}
+use Rattle.sheet.specs.Layout.{headSize, kind}
 use Rattle.sheet.proofs.Blocks.{block-size-at}
 use Rattle.sheet.proofs.Checked.{head-size-most}
-use Rattle.frame.specs.Framing.{pointCount}
-use Rattle.frame.proofs.Counting.{pointsIn, points-step, points-end, count-of-blocks}
+use Rattle.frame.proofs.Counting.{points-step, points-end, count-of-blocks}
 use Rattle.frame.proofs.checks.point_numbers.Goals as goal
 
 pub loop-k-init : goal.loop-k-init

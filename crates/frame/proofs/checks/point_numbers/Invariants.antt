@@ -1,15 +1,9 @@
-use mathlib.Core.Path.{◌≡◌, ap, ◌∙◌}
+use mathlib.Core.Path.{◌≡◌}
 use Prim.Native.Nat.{◌+◌, ◌*◌, ◌-◌, ◌≤◌}
-use native.Mathlib.Nat.{sub-zero, zero-add, add-zero}
-use native.Mathlib.Omega.{arith}
-use lib.ListN.{get_or, drop}
-use lib.Seq.{get_or-drop}
-use borrow.Author.Rules.{rules}
-use Rattle.sheet.specs.Layout.{headSize, kind, cut, sheetOf}
-use Rattle.sheet.proofs.Blocks.{block-size-at}
-use Rattle.sheet.proofs.Checked.{head-size-most}
+use lib.ListN.{drop}
+use Rattle.sheet.specs.Layout.{cut, sheetOf}
 use Rattle.frame.specs.Framing.{pointCount}
-use Rattle.frame.proofs.Counting.{pointsIn, points-step, points-end, count-of-blocks}
+use Rattle.frame.proofs.Counting.{pointsIn}
 use Rattle.frame.proofs.checks.point_numbers.Given as goal
 
 abbrev pub invariant-loop-k : goal.invariant-loop-k

@@ -8,7 +8,6 @@ use Rattle.sheet.specs.Layout.{sheetOf}
 use Rattle.sheet.proofs.Checked.{sheet-numbered}
 use Rattle.frame.specs.Framing.{phaseWrong}
 use Rattle.frame.specs.Seam.{phaseChecks}
-use borrow.Author.Rules.{rules}
 use Rattle.frame.proofs.checks.refusal.Goals as goal
 
 pub returns-then-number-ne0 : goal.returns-then-number-ne0

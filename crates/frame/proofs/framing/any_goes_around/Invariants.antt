@@ -1,13 +1,9 @@
-use mathlib.Core.Path.{◌≡◌, refl, sym, ◌∙◌}
+use mathlib.Core.Path.{◌≡◌}
 use Prim.Native.Nat.{◌-◌, ◌≤◌}
-use native.Mathlib.Omega.{arith}
-use lib.ListN.{length, get_or, drop}
-use borrow.Author.Rules.{rules}
+use lib.ListN.{length, drop}
 use Rattle.answers.specs.Lists.{anyOf}
-use Rattle.answers.proofs.AnyOf.{any-found, any-passed, any-none}
 use Rattle.points.specs.Bounds.{goesAround}
 use Rattle.frame.specs.Parts.{ringsFrom, Ascends}
-use Rattle.frame.proofs.Rings.{ascends-step, end-bound, rings-step, rings-end}
 use Rattle.frame.proofs.framing.any_goes_around.Given as goal
 
 abbrev pub invariant-loop-k : goal.invariant-loop-k

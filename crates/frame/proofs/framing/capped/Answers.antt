@@ -1,5 +1,4 @@
 -- `frame::framing::capped` meets its contract: the test of the code is that of the definition.
-use borrow.Author.Rules.{rules}
 use Rattle.frame.specs.Frame.{capped}
 use Rattle.frame.proofs.framing.capped.Goals as goal
 

@@ -1,5 +1,4 @@
 -- `frame::framing::framed_by` meets its contract: the scales are the differences of the box.
-use borrow.Author.Rules.{rules}
 use Rattle.points.specs.Bounds.{boxOf}
 use Rattle.frame.specs.Frame.{framed, boxed, spread}
 use Rattle.frame.proofs.framing.framed_by.Goals as goal

@@ -1,5 +1,4 @@
 -- `frame::framing::is_band` meets its contract: the test of the code is that of the definition.
-use borrow.Author.Rules.{rules}
 use borrow.Author.Tests.{eq-eqb, ne_eqb}
 use Rattle.frame.specs.Frame.{bandOf}
 use Rattle.frame.proofs.framing.is_band.Goals as goal

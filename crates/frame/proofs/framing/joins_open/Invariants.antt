@@ -1,16 +1,11 @@
 use mathlib.Core.List.{List}
-use mathlib.Core.Path.{◌≡◌, refl, sym, ◌∙◌}
+use mathlib.Core.Path.{◌≡◌}
 use Prim.Native.Nat.{◌-◌, ◌≤◌}
-use native.Mathlib.Omega.{arith}
-use lib.ListN.{length, get_or, drop}
-use borrow.Author.Rules.{rules}
+use lib.ListN.{length, drop}
 use Rattle.sheet.specs.Content.{Point}
 use Rattle.answers.specs.Lists.{anyOf}
-use Rattle.answers.proofs.AnyOf.{any-found, any-passed, any-none}
 use Rattle.points.specs.Joins.{ringOpen, every}
 use Rattle.frame.specs.Parts.{ringsFrom, Ascends}
-use Rattle.frame.specs.Framing.{anyOpen}
-use Rattle.frame.proofs.Rings.{ascends-step, end-bound, rings-step, rings-end}
 use Rattle.frame.proofs.framing.joins_open.Given as goal
 
 abbrev pub invariant-loop-k : goal.invariant-loop-k

@@ -1,7 +1,6 @@
 -- `frame::framing::joins_refusal` makes the checks 11 to 13 in the table's order, each by the contract of what tests
 -- it.
 use mathlib.Core.Path.{sym, ◌∙◌}
-use borrow.Author.Rules.{rules}
 use Rattle.answers.specs.Outcome.{first}
 use Rattle.frame.specs.Framing.{joinRows}
 use Rattle.frame.proofs.framing.joins_refusal.Goals as goal

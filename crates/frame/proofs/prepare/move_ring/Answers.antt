@@ -1,6 +1,5 @@
 -- `frame::prepare::move_ring` meets its contract, by those of `read` and `unroll`: the list has room for just the
 -- ring's points.
-use borrow.Author.Rules.{rules}
 use Rattle.frame.proofs.Preparing.{ring-moved}
 use Rattle.frame.proofs.prepare.move_ring.Goals as goal
 

@@ -1,14 +1,12 @@
 -- `frame::prepare::prepare` meets its contract. The invariant: the rings of the blocks before `at` are moved and noted,
 -- and those left fill the rest of the list. A block has at most 71401 bytes, so no place
 -- wraps.
-use mathlib.Core.Path.{◌≡◌, refl, ◌∙◌}
-use Prim.Native.Nat.{◌+◌, ◌*◌, ◌-◌, ◌≤◌, ◌<◌}
+use mathlib.Core.Path.{refl, ◌∙◌}
+use Prim.Native.Nat.{◌+◌, ◌*◌, ◌≤◌, ◌<◌}
 use native.Mathlib.Omega.{arith}
-use borrow.Author.Rules.{rules}
-use lib.ListN.{length, drop}
+use lib.ListN.{length}
 use Rattle.sheet.proofs.Blocks.{block-size-at}
-use Rattle.frame.specs.Stages.{movedBlocks}
-use Rattle.frame.proofs.Preparing.{Prepared, none-prepared, part-within, ring-room, same-size, ring-prepared, all-moved, all-parted}
+use Rattle.frame.proofs.Preparing.{none-prepared, part-within, ring-room, same-size, ring-prepared, all-moved, all-parted}
 use Rattle.frame.proofs.prepare.prepare.Goals as goal
 
 pub loop-k-init : goal.loop-k-init

@@ -1,11 +1,8 @@
-use mathlib.Core.Path.{◌≡◌, refl, ◌∙◌}
-use Prim.Native.Nat.{◌+◌, ◌*◌, ◌-◌, ◌≤◌, ◌<◌}
-use native.Mathlib.Omega.{arith}
-use borrow.Author.Rules.{rules}
+use mathlib.Core.Path.{◌≡◌}
+use Prim.Native.Nat.{◌+◌, ◌*◌, ◌-◌, ◌≤◌}
 use lib.ListN.{length, drop}
-use Rattle.sheet.proofs.Blocks.{block-size-at}
 use Rattle.frame.specs.Stages.{movedBlocks}
-use Rattle.frame.proofs.Preparing.{Prepared, none-prepared, part-within, ring-room, same-size, ring-prepared, all-moved, all-parted}
+use Rattle.frame.proofs.Preparing.{Prepared}
 use Rattle.frame.proofs.prepare.prepare.Given as goal
 
 abbrev pub invariant-loop-k : goal.invariant-loop-k

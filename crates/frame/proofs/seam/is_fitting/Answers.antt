@@ -3,7 +3,6 @@ use mathlib.Core.Path.{sym, ◌∙◌}
 use borrow.Author.Tests.{eq-eqb, ne_eqb}
 use Rattle.frame.proofs.Counting.{ring-number}
 use Rattle.frame.specs.Seam.{fitting}
-use borrow.Author.Rules.{rules}
 use Rattle.frame.proofs.seam.is_fitting.Goals as goal
 
 pub returns-then-numbers-point_numbers : goal.returns-then-numbers-point_numbers

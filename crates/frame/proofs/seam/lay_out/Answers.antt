@@ -6,16 +6,13 @@ use mathlib.Core.Path.{◌≡◌, sym, ap, ap₂, ◌∙◌}
 use mathlib.Core.Bool.{Bool, true}
 use Prim.Native.Nat.{ℕ, ◌≤◌}
 use native.Mathlib.Omega.{arith}
-use borrow.Author.Rules.{rules}
-use borrow.Author.Tests.{not-false, not-true}
 use lib.ListN.{length, drop}
-use Rattle.sheet.specs.Content.{Sheet}
 use Rattle.answers.specs.Outcome.{first}
 use Rattle.sheet.specs.Content.{Point, flat, pairs}
 use Rattle.sheet.specs.Layout.{kind, headSize, ringCount, sheetOf}
 use Rattle.sheet.proofs.Checked.{head-size-most}
 use Rattle.frame.specs.Frame.{frameOf, framed, periodicOf, bandOf}
-use Rattle.frame.specs.Framing.{movedRings, frame, joinRows, joinChecks}
+use Rattle.frame.specs.Framing.{frame, joinRows, joinChecks}
 use Rattle.frame.specs.Parts.{endsFrom, ringsFrom, Packed}
 use Rattle.frame.specs.Seam.{fitting, laidPoints, laidEnds}
 use Rattle.frame.specs.Stages.{movedBlocks, openEvery}
