@@ -1,6 +1,6 @@
 -- What was read of the input.
 use Rattle.std.specs.Prelude.{List, ℕ}
-use Rattle.io.specs.Counts.{IsPrefixLen}
+use Rattle.text.specs.Page.{IsPrefixLen}
 use Rattle.facepoint.specs.declared.Input.{Input}
 use Rattle.facepoint.specs.declared.Input.TheVariants.{Bytes, Failed}
 

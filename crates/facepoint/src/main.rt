@@ -5,7 +5,7 @@
 #![tactic(auto)]
 
 ghost use Rattle.std.specs.Prelude.{◌≡◌, length, take};
-ghost use Rattle.io.specs.Counts.{IsPrefixLen};
+ghost use Rattle.text.specs.Page.{IsPrefixLen};
 ghost use Rattle.answers.specs.Answers.{paper};
 ghost use Rattle.facepoint.specs.Answer.{answerTo};
 ghost use Rattle.facepoint.specs.Line.{lineOf};

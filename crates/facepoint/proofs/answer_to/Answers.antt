@@ -1,0 +1,13 @@
+-- `facepoint::answer_to` is `answerTo`: the length is tested first, and the rest is the plane pick's contract.
+use Rattle.std.proofs.Common.{lt-ltb, le-ltb}
+use Rattle.answers.proofs.Papers.{paper-refused}
+use Rattle.facepoint.specs.Answer.{answerTo}
+use Rattle.facepoint.proofs.answer_to.Goals as goal
+
+pub returns-then-input-gt-MOST_BYTES : goal.returns-then-input-gt-MOST_BYTES
+unfolding answerTo
+returns-then-input-gt-MOST_BYTES c = rw (lt-ltb _ _ c.if-input-gt-MOST_BYTES.true) (paper-refused 1)
+
+pub returns : goal.returns
+unfolding answerTo
+returns c = rw (le-ltb _ _ c.if-input-gt-MOST_BYTES.false) c.plane_pick.ensures.0
