@@ -12,8 +12,7 @@ use mir.Syntax.{w64}
 use mir.Val.{of_z}
 use mir.ValLaws.{to_z-of_z}
 use Rattle.coverage.specs.Coverage.{onSide}
-use Rattle.coverage.proofs.marks.on_side.Statement.{statement}
-use Rattle.coverage.proofs.marks.on_side.Tie as tie
+use Rattle.coverage.proofs.marks.on_side.Goals as goal
 
 module _ (sense : ℕ) where
   side-below : (n : ℤ) → lt_z n (pos 0) ≡ true → eqb sense 2 ≡ onSide sense n
@@ -33,20 +32,14 @@ module _ (sense : ℕ) where
   side-above (pos (suc n)) h k = rw (lt-ltb 0 (suc n) (omega arith)) (sym (and-true (eqb sense 1)))
   side-above (negsuc n) h k = cc
 
-returns : tie.Need-returns
-returns c =
-    let x = c.before in
-    side-below x.args.sense x.args.n (rw (to_z-of_z w64 x.args.n x.ranges.n) at c.if1.true)
+pub returns-then-n-lt0 : goal.returns-then-n-lt0
+returns-then-n-lt0 c =
+    side-below c.args.sense c.args.n (rw (to_z-of_z w64 c.args.n c.ranges.n) at c.if-n-lt0.true)
 
-returns-2 : tie.Need-returns-2
-returns-2 c =
-    let x = c.before.before in
-    side-zero x.args.sense x.args.n (rw (to_z-of_z w64 x.args.n x.ranges.n) at c.before.if1.false) c.if2.true
+pub returns-then-n-eq0 : goal.returns-then-n-eq0
+returns-then-n-eq0 c =
+    side-zero c.args.sense c.args.n (rw (to_z-of_z w64 c.args.n c.ranges.n) at c.if-n-lt0.false) c.if-n-eq0.true
 
-returns-3 : tie.Need-returns-3
-returns-3 c =
-    let x = c.before.before in
-    side-above x.args.sense x.args.n (rw (to_z-of_z w64 x.args.n x.ranges.n) at c.before.if1.false) c.if2.false
-
-pub on-side-spec : {M : Type 1} → statement M
-on-side-spec = tie.close (tie.spec returns returns-2 returns-3)
+pub returns-else-n-eq0 : goal.returns-else-n-eq0
+returns-else-n-eq0 c =
+    side-above c.args.sense c.args.n (rw (to_z-of_z w64 c.args.n c.ranges.n) at c.if-n-lt0.false) c.if-n-eq0.false

@@ -1,0 +1,60 @@
+-- `coverage::covering::add_rings` adds up the windings of all rings at every grid point. The invariant, at every grid
+-- point: the windings of the rings that are left, added to the cell, give the whole sum; and the cell is at most 2176
+-- for each ring passed in magnitude. A turn adds one ring's, whose numbers are those between its ends as far as the
+-- list goes: at most 4352, and so no sum overflows.
+use mathlib.Core.Path.{sym, ◌∙◌}
+use mathlib.Core.List.{List}
+use Prim.Native.Nat.{ℕ, ◌-◌, ◌≤◌}
+use native.Mathlib.Omega.{arith}
+use lib.IntN.{pos, nat_abs}
+use lib.Ieee.{Float}
+use lib.ListN.{length, get_or, drop, length-take, length-drop, length-replicate, get_or-replicate}
+use Rattle.sheet.specs.Content.{pairs}
+use Rattle.points.proofs.Flat.{length-pairs}
+use Rattle.inside.specs.Lines.{byColumns}
+use Rattle.frame.proofs.Rings.{between, fold-rings-end}
+use Rattle.coverage.specs.Coverage.{windingOf}
+use Rattle.coverage.proofs.Cutting.{fold-cut}
+use Rattle.coverage.proofs.Windings.{sum-small, winding-small}
+use Rattle.coverage.proofs.covering.add_rings.Invariants.{wind}
+use Rattle.coverage.proofs.covering.add_rings.Goals as goal
+
+pub loop-k-init : goal.loop-k-init
+loop-k-init c =
+    let h = c.requires.2 in (
+      omega arith,
+      rw h (length-replicate 961 (pos 0)),
+      λ n l. rw (h, get_or-replicate 961 n (pos 0) (pos 0) l) (omega arith),
+      λ n l. rw (h, get_or-replicate 961 n (pos 0) (pos 0) l),
+    )
+
+pub add_ring-requires : goal.add_ring-requires
+add_ring-requires c =
+    let few = c.requires.1 in
+    (c.loop-k.invariant.1, λ n h. omega (arith, c.loop-k.invariant.0, c.loop-k.invariant.2 n h, few))
+
+-- a ring has at most half as many points as the list has numbers
+few-points : (period : Float) (n from end : ℕ) (xs : List Float) → length xs ≤ 4352 → nat_abs (windingOf period (byColumns n) (pairs (between from end xs))) ≤ 2176
+few-points period n from end xs h =
+    omega (arith, winding-small period (byColumns n) (pairs (between from end xs)), length-pairs (between from end xs), length-take (end - from) (drop from xs), length-drop from xs)
+
+pub loop-k-preserved : goal.loop-k-preserved
+loop-k-preserved c =
+    let a = c.args in
+    let start = c.place-start in
+    let end = c.place-end in
+    let more = c.loop-k-test.true in
+    let sums = c.add_ring.ensures in (
+      omega arith,
+      sums.count,
+      λ n h. rw (sums.is n h) (omega (arith, c.loop-k.invariant.2 n h, sum-small (get_or c.loop-k.cells n (pos 0)) (windingOf a.period (byColumns n) (pairs (between start.result end.result a.points.now))), few-points a.period n start.result end.result a.points.now c.requires.0)),
+      λ n h. rw (sums.is n h) (sym (fold-cut (wind a.period n) a.ends.now a.points.now (get_or c.loop-k.cells n (pos 0)) c.loop-k.from c.loop-k.k start.result end.result more start.ensures end.ensures) ∙ c.loop-k.invariant.3 n h),
+    )
+
+pub returns : goal.returns
+returns c =
+    let x = c.args in
+    record {
+      count = c.loop-k.invariant.1;
+      is = λ n h. sym (fold-rings-end (wind x.period n) x.ends.now x.points.now (get_or c.loop-k.cells n (pos 0)) c.loop-k.from c.loop-k.k c.loop-k-test.false) ∙ c.loop-k.invariant.3 n h;
+    }

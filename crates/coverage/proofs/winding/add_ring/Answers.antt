@@ -1,0 +1,59 @@
+-- `coverage::winding::add_ring` adds the ring's winding to every cell. The invariant, at every grid point: the fold
+-- over the segments that are left, from the point a before place k and the cell, gives the whole sum, and the cell has
+-- grown by at most k in magnitude. A turn adds one segment's step, at most 1 in magnitude, so no sum overflows: a list
+-- has fewer than 2 ^ 60 numbers. The closing segment comes after the loop.
+use mathlib.Core.Path.{sym, ap, ◌∙◌}
+use mathlib.Core.List.{[], ◌∷◌, foldl}
+use native.Mathlib.Omega.{arith}
+use lib.IntN.{pos}
+use lib.ListN.{get_or}
+use Rattle.sheet.specs.Content.{point}
+use Rattle.points.specs.Segments.{segment}
+use Rattle.points.proofs.Walk.{pointAt, walk-step, left-end}
+use Rattle.inside.specs.Lines.{byColumns}
+use Rattle.coverage.specs.Coverage.{stepOf}
+use Rattle.coverage.proofs.Windings.{windStep, winding-none, winding-start, step-small, sum-small}
+use Rattle.coverage.proofs.winding.add_ring.Goals as goal
+
+pub returns-then-count-eq0 : goal.returns-then-count-eq0
+returns-then-count-eq0 c =
+    record { count = c.requires.0; is = λ n h. sym (winding-none c.args.period (byColumns n) c.args.ring.now (get_or c.args.cells.now n (pos 0)) c.if-count-eq0.true) }
+
+pub loop-k-init : goal.loop-k-init
+loop-k-init c = (
+  omega arith,
+  omega arith,
+  c.requires.0,
+  λ n h. omega arith,
+  λ n h. winding-start c.args.period (byColumns n) c.args.ring.now (get_or c.args.cells.now n (pos 0)) (omega arith),
+)
+
+pub add_segment-requires : goal.add_segment-requires
+add_segment-requires c = (c.loop-k.invariant.2, λ n h. omega (arith, c.loop-k.invariant.3 n h, c.requires.1 n h))
+
+pub loop-k-preserved : goal.loop-k-preserved
+loop-k-preserved c =
+    let x = c.args in
+    let ring = x.ring.now in
+    let a = point c.loop-k.a_u c.loop-k.a_v in
+    let k = c.loop-k.k in
+    let sums = c.add_segment.ensures in (
+      omega arith,
+      omega arith,
+      sums.count,
+      λ n h. rw (sums.is n h) (omega (arith, c.loop-k.invariant.3 n h, sum-small (get_or c.loop-k.cells n (pos 0)) (stepOf x.period (byColumns n) (segment a (pointAt ring k))), step-small x.period (byColumns n) (segment a (pointAt ring k)))),
+      λ n h. rw (sums.is n h) (sym (ap (foldl (windStep x.period (byColumns n)) (get_or c.loop-k.cells n (pos 0))) (walk-step ring (pointAt ring 0 ∷ []) a k (omega arith))) ∙ c.loop-k.invariant.4 n h),
+    )
+
+pub add_segment-requires-2 : goal.add_segment-requires-2
+add_segment-requires-2 c = (c.loop-k.invariant.2, λ n h. omega (arith, c.loop-k.invariant.3 n h, c.requires.1 n h))
+
+pub returns : goal.returns
+returns c =
+    let x = c.args in
+    let ring = x.ring.now in
+    let sums = c.add_segment-2.ensures in
+    record {
+      count = sums.count;
+      is = λ n h. sums.is n h ∙ sym (ap (foldl (windStep x.period (byColumns n)) (get_or c.loop-k.cells n (pos 0))) (left-end ring (point c.loop-k.a_u c.loop-k.a_v) c.loop-k.k (omega arith))) ∙ c.loop-k.invariant.4 n h;
+    }
