@@ -5,7 +5,6 @@
 use mathlib.Core.Path.{◌≡◌, sym, ap, ◌∙◌}
 use mathlib.Core.Bool.{Bool, true, false, not}
 use Prim.Native.Nat.{ℕ, ◌≤◌}
-use native.Mathlib.Omega.{arith}
 use lib.Dec.{T}
 use lib.Ieee.{Float, binary64, of_bits, add, sub, fits, eq, le}
 use Rattle.leaves.specs.Constants.{plusZero}
@@ -48,9 +47,3 @@ module _ (period mid : Float) (ordered : T (keepsOrder period mid)) where
       let fit : (j : ℕ) → T (fits binary64 (turnAt period mid j)) = λ j. turns-fits (sub binary64 mid (part j)) period in
       added-same (part m) (turnAt period mid i) (turnAt period mid m) (part-plain m) (fit i) (fit m) (turn-down i m h)
       (le-trans binary64 (turnAt period mid i) (turnAt period mid t) (turnAt period mid m) (fit i) (fit t) (fit m) (eq→le (turnAt period mid i) (turnAt period mid t) (holds (eq (turnAt period mid i) (turnAt period mid t)) e)) (turn-down m t k))
-
--- turns serve at their own column
-pub turning-here : (period mid : Float) (i : ℕ) → Turning period mid i i (turnAt period mid i)
-turning-here period mid i m h k =
-    let e : m ≡ i = omega arith in
-    rw e

@@ -1,24 +1,20 @@
 -- `coverage::column_turns::turned_until` answers a column up to which the turns at column i serve: i itself, or one
 -- where they were found to be equal.
 use mathlib.Core.Path.{◌≡◌, sym, subst, ◌∙◌}
-use mathlib.Core.Bool.{Bool, true, false, not, true≢false}
-use Prim.Native.Nat.{ℕ, ◌+◌, ◌≤◌}
+use mathlib.Core.Bool.{Bool, true}
+use Prim.Native.Nat.{ℕ, ◌+◌}
 use native.Mathlib.Omega.{arith}
-use lib.Dec.{T}
 use lib.Ieee.{Float, eq}
 use Rattle.points.specs.Turns.{keepsOrder}
 use Rattle.coverage.specs.Lines.{turnAt, Turning}
 use Rattle.points.proofs.ColumnOrder.{holds}
-use Rattle.coverage.proofs.ServingTurns.{turning-between, turning-here}
+use Rattle.coverage.proofs.ServingTurns.{turning-between}
 use Rattle.coverage.proofs.column_turns.turned_until.Goals as goal
 
-module _ (period mid : Float) (i : ℕ) (by : Float) (is : by ≡ turnAt period mid i) where
-  here : Turning period mid i i by
-  here = subst (Turning period mid i i) (sym is) (turning-here period mid i)
-
-  found : (kept : Bool) → kept ≡ keepsOrder period mid → kept ≡ true → (t : ℕ) (there : Float) → there ≡ turnAt period mid t → eq by there ≡ true → Turning period mid i t by
-  found kept e h t there at q =
-      subst (Turning period mid i t) (sym is) (turning-between period mid (holds (keepsOrder period mid) (sym e ∙ h)) i t (rw (← is, ← at) q))
+-- equal turns at two columns serve between them where they go with the order
+found : (period mid : Float) (i : ℕ) (by : Float) → by ≡ turnAt period mid i → (kept : Bool) → kept ≡ keepsOrder period mid → kept ≡ true → (t : ℕ) (there : Float) → there ≡ turnAt period mid t → eq by there ≡ true → Turning period mid i t by
+found period mid i by is kept e h t there at q =
+    subst (Turning period mid i t) (sym is) (turning-between period mid (holds (keepsOrder period mid) (sym e ∙ h)) i t (rw (← is, ← at) q))
 
 pub returns-then-by-turn_at : goal.returns-then-by-turn_at
 returns-then-by-turn_at c =

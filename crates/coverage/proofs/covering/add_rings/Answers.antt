@@ -2,22 +2,22 @@
 -- point: the windings of the rings that are left, added to the cell, give the whole sum; and the cell is at most 2176
 -- for each ring passed in magnitude. A turn adds one ring's, whose numbers are those between its ends as far as the
 -- list goes: at most 4352, and so no sum overflows.
-use mathlib.Core.Path.{◌≡◌, sym, ◌∙◌}
+use mathlib.Core.Path.{sym, ◌∙◌}
 use mathlib.Core.List.{List}
-use Prim.Native.Nat.{ℕ, ◌-◌, ◌*◌, ◌≤◌, ◌<◌}
+use Prim.Native.Nat.{ℕ, ◌-◌, ◌≤◌}
 use native.Mathlib.Omega.{arith}
-use lib.IntN.{ℤ, pos, nat_abs, ◌+ℤ◌}
+use lib.IntN.{pos, nat_abs}
 use lib.Ieee.{Float}
 use lib.ListN.{length, get_or, drop, length-take, length-drop, length-replicate, get_or-replicate}
-use Rattle.sheet.specs.Content.{Point, pairs}
+use Rattle.sheet.specs.Content.{pairs}
 use Rattle.points.proofs.Flat.{length-pairs}
 use Rattle.inside.specs.Lines.{byColumns}
-use Rattle.frame.proofs.Rings.{between, foldRings, fold-rings-end}
+use Rattle.frame.proofs.Rings.{between, fold-rings-end}
 use Rattle.coverage.specs.Coverage.{windingOf}
 use Rattle.coverage.proofs.Cutting.{fold-cut}
 use Rattle.coverage.proofs.Windings.{sum-small, winding-small}
-use Rattle.coverage.proofs.covering.add_rings.Goals as goal
 use Rattle.coverage.proofs.covering.add_rings.Invariants.{wind}
+use Rattle.coverage.proofs.covering.add_rings.Goals as goal
 
 pub loop-k-init : goal.loop-k-init
 loop-k-init c =
@@ -40,15 +40,14 @@ few-points period n from end xs h =
 
 pub loop-k-preserved : goal.loop-k-preserved
 loop-k-preserved c =
-    let x = c.before.before.before in
-    let a = x.args in
+    let a = c.args in
     let start = c.place-start in
     let end = c.place-end in
     let more = c.loop-k-test.true in
     let sums = c.add_ring.ensures in (
       omega arith,
       sums.count,
-      λ n h. rw (sums.is n h) (omega (arith, c.loop-k.invariant.2 n h, sum-small (get_or c.loop-k.cells n (pos 0)) (windingOf a.period (byColumns n) (pairs (between start.result end.result a.points.now))), few-points a.period n start.result end.result a.points.now x.requires.0)),
+      λ n h. rw (sums.is n h) (omega (arith, c.loop-k.invariant.2 n h, sum-small (get_or c.loop-k.cells n (pos 0)) (windingOf a.period (byColumns n) (pairs (between start.result end.result a.points.now))), few-points a.period n start.result end.result a.points.now c.requires.0)),
       λ n h. rw (sums.is n h) (sym (fold-cut (wind a.period n) a.ends.now a.points.now (get_or c.loop-k.cells n (pos 0)) c.loop-k.from c.loop-k.k start.result end.result more start.ensures end.ensures) ∙ c.loop-k.invariant.3 n h),
     )
 

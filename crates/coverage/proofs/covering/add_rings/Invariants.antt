@@ -1,19 +1,16 @@
-use mathlib.Core.Path.{◌≡◌, sym, ◌∙◌}
+use mathlib.Core.Path.{◌≡◌}
 use mathlib.Core.List.{List}
 use Prim.Native.Nat.{ℕ, ◌-◌, ◌*◌, ◌≤◌, ◌<◌}
-use native.Mathlib.Omega.{arith}
 use lib.IntN.{ℤ, pos, nat_abs, ◌+ℤ◌}
 use lib.Ieee.{Float}
-use lib.ListN.{length, get_or, drop, length-take, length-drop, length-replicate, get_or-replicate}
-use Rattle.sheet.specs.Content.{Point, pairs}
-use Rattle.points.proofs.Flat.{length-pairs}
+use lib.ListN.{length, get_or}
+use Rattle.sheet.specs.Content.{Point}
 use Rattle.inside.specs.Lines.{byColumns}
-use Rattle.frame.proofs.Rings.{between, foldRings, fold-rings-end}
+use Rattle.frame.proofs.Rings.{foldRings}
 use Rattle.coverage.specs.Coverage.{windingOf}
-use Rattle.coverage.proofs.Cutting.{fold-cut}
-use Rattle.coverage.proofs.Windings.{sum-small, winding-small}
 use Rattle.coverage.proofs.covering.add_rings.Given as goal
 
+-- a sum at the grid point in place n with one ring more
 abbrev pub wind : Float → ℕ → ℤ → List Point → ℤ
 wind period n m ring = m +ℤ windingOf period (byColumns n) ring
 

@@ -16,7 +16,6 @@ use Rattle.frame.specs.Parts.{ringsFrom}
 use Rattle.frame.specs.declared.framing.Frame.{Frame}
 use Rattle.coverage.specs.Coverage.{covered}
 use Rattle.coverage.proofs.Cutting.{Placed, front-size, cut-front}
-use borrow.Author.Rules.{rules}
 use Rattle.coverage.proofs.covering.cover.Goals as goal
 
 abbrev marks : Frame → ℕ → List ℕ → List Float → ℕ → ℕ → Bool

@@ -9,7 +9,6 @@ use Rattle.inside.proofs.Cells.{all-grid}
 use Rattle.frame.specs.Parts.{ringsFrom}
 use Rattle.coverage.specs.Coverage.{covered}
 use Rattle.coverage.proofs.Parity.{same-point, covered-inside}
-use borrow.Author.Rules.{rules}
 use Rattle.coverage.proofs.covering.cover_by_inside.Goals as goal
 
 pub returns : goal.returns

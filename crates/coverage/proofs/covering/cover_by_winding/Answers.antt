@@ -7,7 +7,6 @@ use Rattle.inside.proofs.Cells.{all-grid}
 use Rattle.frame.specs.Parts.{ringsFrom}
 use Rattle.coverage.specs.Coverage.{covered}
 use Rattle.coverage.proofs.Parity.{covered-winding}
-use borrow.Author.Rules.{rules}
 use Rattle.coverage.proofs.covering.cover_by_winding.Goals as goal
 
 pub returns : goal.returns

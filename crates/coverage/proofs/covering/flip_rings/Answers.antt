@@ -1,20 +1,15 @@
 -- `coverage::covering::flip_rings` flips each grid point once for each ring that it is inside of. The invariant, at
 -- every grid point: the flips of the rings that are left, from the cell, give the whole answer. A turn flips one
 -- ring's, whose numbers are those between its ends as far as the list goes.
-use mathlib.Core.Path.{◌≡◌, sym, ◌∙◌}
-use mathlib.Core.Bool.{Bool, false, xor}
-use mathlib.Core.List.{List}
-use Prim.Native.Nat.{ℕ, ◌-◌, ◌<◌}
-use native.Mathlib.Omega.{arith}
-use lib.ListN.{length, get_or, length-replicate, get_or-replicate}
-use Rattle.sheet.specs.Content.{Point, pairs}
-use Rattle.inside.specs.Inside.{insideOf}
-use Rattle.inside.specs.Lines.{byRows}
+use mathlib.Core.Path.{sym, ◌∙◌}
+use mathlib.Core.Bool.{false}
+use lib.ListN.{get_or, length-replicate, get_or-replicate}
+use Rattle.sheet.specs.Content.{pairs}
 use Rattle.inside.proofs.Cells.{flipped-cells}
-use Rattle.frame.proofs.Rings.{between, foldRings, fold-rings-end}
+use Rattle.frame.proofs.Rings.{between, fold-rings-end}
 use Rattle.coverage.proofs.Cutting.{fold-cut}
-use Rattle.coverage.proofs.covering.flip_rings.Goals as goal
 use Rattle.coverage.proofs.covering.flip_rings.Invariants.{flip}
+use Rattle.coverage.proofs.covering.flip_rings.Goals as goal
 
 pub loop-k-init : goal.loop-k-init
 loop-k-init c =

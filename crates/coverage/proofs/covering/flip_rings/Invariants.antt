@@ -1,17 +1,15 @@
-use mathlib.Core.Path.{◌≡◌, sym, ◌∙◌}
+use mathlib.Core.Path.{◌≡◌}
 use mathlib.Core.Bool.{Bool, false, xor}
 use mathlib.Core.List.{List}
 use Prim.Native.Nat.{ℕ, ◌-◌, ◌<◌}
-use native.Mathlib.Omega.{arith}
-use lib.ListN.{length, get_or, length-replicate, get_or-replicate}
-use Rattle.sheet.specs.Content.{Point, pairs}
+use lib.ListN.{length, get_or}
+use Rattle.sheet.specs.Content.{Point}
 use Rattle.inside.specs.Inside.{insideOf}
 use Rattle.inside.specs.Lines.{byRows}
-use Rattle.inside.proofs.Cells.{flipped-cells}
-use Rattle.frame.proofs.Rings.{between, foldRings, fold-rings-end}
-use Rattle.coverage.proofs.Cutting.{fold-cut}
+use Rattle.frame.proofs.Rings.{foldRings}
 use Rattle.coverage.proofs.covering.flip_rings.Given as goal
 
+-- the cell in place n after one ring more
 abbrev pub flip : ℕ → Bool → List Point → Bool
 flip n t ring = xor t (insideOf ring (byRows n))
 

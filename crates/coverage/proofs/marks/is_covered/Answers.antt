@@ -1,6 +1,5 @@
 -- `coverage::marks::is_covered` is `coveredBy`, by the two tests.
 use mathlib.Core.Path.{◌≡◌, ap, ◌∙◌}
-use borrow.Author.Rules.{rules}
 use mir.Syntax.{w64}
 use mir.ValLaws.{to_z-of_z}
 use Rattle.coverage.specs.Coverage.{oddℤ, onSide, coveredBy}

@@ -1,25 +1,17 @@
--- `coverage::marks::is_odd` is `oddℤ`. An i64 read from its bits is the number, half of it fits, and its remainder by
--- 2, which has the number's sign, is 0 just where the magnitude's is.
+-- `coverage::marks::is_odd` is `oddℤ`. An i64 read from its bits is the number, and its remainder by 2, which has the
+-- number's sign, is 0 just where the magnitude's is.
 use mathlib.Core.Path.{◌≡◌, refl}
 use mathlib.Core.Bool.{not}
-use Prim.Native.Nat.{ℕ, zero, suc, ◌/◌, ◌%◌, ◌^◌, ◌<◌}
+use Prim.Native.Nat.{ℕ, zero, suc, ◌%◌, ◌<◌}
 use native.Mathlib.Omega.{arith}
 use lib.Dec.{eqb}
 use lib.IntN.{ℤ, pos, negsuc, neg_ℤ}
-use lib.Signed.{quot_z, rem_z}
+use lib.Signed.{rem_z}
 use mir.Syntax.{w64}
-use mir.Val.{SFits, of_z}
+use mir.Val.{of_z}
 use mir.ValLaws.{to_z-of_z}
 use Rattle.coverage.specs.Coverage.{oddℤ}
 use Rattle.coverage.proofs.marks.is_odd.Goals as goal
-
-negative-fits : (n : ℕ) → n < 2 ^ 63 → SFits w64 (neg_ℤ (pos n))
-negative-fits zero h = record { sfits = h }
-negative-fits (suc n) h = record { sfits = omega arith }
-
-half-fits : (n : ℤ) → SFits w64 n → SFits w64 (quot_z n (pos 2))
-half-fits (pos n) h = record { sfits = omega arith }
-half-fits (negsuc n) h = negative-fits (suc n / 2) (omega arith)
 
 odd-positive : (r : ℕ) → r < 2 → not (eqb r 0) ≡ eqb r 1
 odd-positive zero h = refl

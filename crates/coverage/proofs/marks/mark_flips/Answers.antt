@@ -1,21 +1,18 @@
 -- `coverage::marks::mark_flips` marks each grid point by its cell. The invariant: the places before k hold their marks,
 -- and `at` is where the grid point in place k stands by rows. A turn writes one.
-use mathlib.Core.Path.{◌≡◌, sym, ap, ◌∙◌}
-use mathlib.Core.Bool.{Bool, false, cond}
-use mathlib.Core.List.{List}
-use mathlib.Core.Logic.{⊎_elim}
-use Prim.Native.Nat.{ℕ, ◌-◌}
+use mathlib.Core.Path.{◌≡◌, ap, ◌∙◌}
+use mathlib.Core.Bool.{false, cond}
 use native.Mathlib.Omega.{arith}
 use lib.IntN.{pos}
 use lib.ListN.{get_or}
 use mir.Syntax.{w64}
 use mir.Val.{to_z}
 use Rattle.inside.specs.Lines.{inRows}
-use Rattle.inside.proofs.Cells.{Changed, none-changed, cell-changed, all-changed}
+use Rattle.inside.proofs.Cells.{none-changed, cell-changed, all-changed}
 use Rattle.coverage.specs.Coverage.{coveredBy}
+use Rattle.coverage.proofs.marks.mark_flips.Invariants.{marked}
 use Rattle.coverage.proofs.marks.mark_flips.Goals as goal
 use Rattle.coverage.proofs.marks.mark_flips.Goals.{then-cells-at, else-cells-at}
-use Rattle.coverage.proofs.marks.mark_flips.Invariants.{marked}
 
 pub loop-k-init : goal.loop-k-init
 loop-k-init c =
@@ -32,8 +29,10 @@ pub loop-k-preserved : goal.loop-k-preserved
 loop-k-preserved c =
     let x = c.args in
     let at : c.loop-k.at ≡ inRows c.loop-k.k = c.loop-k.invariant.0 in
-    let number = c.if-cells-at in
-    let is : to_z w64 number.crossings-bits ≡ cond (get_or x.cells.now (inRows c.loop-k.k) false) (pos 1) (pos 0) = elim number.branch [ then-cells-at w ↦ rw (← at, w.if-cells-at.true) w.crossings-is | else-cells-at w ↦ rw (← at, w.if-cells-at.false) w.crossings-is ] in (
+    let is : to_z w64 c.if-cells-at.crossings-bits ≡ cond (get_or x.cells.now (inRows c.loop-k.k) false) (pos 1) (pos 0) = elim c.if-cells-at.branch [
+      | then-cells-at w ↦ rw (w.crossings-is, ← at, w.if-cells-at.true)
+      | else-cells-at w ↦ rw (w.crossings-is, ← at, w.if-cells-at.false)
+    ] in (
       c.next_row-at.ensures c.loop-k.k (omega arith) at,
       cell-changed false 961 (marked x.band x.sense x.cells.now) x.covered.now c.loop-k.k c.loop-k.covered c.loop-k.invariant.1 (omega arith) _ (c.is_covered.ensures ∙ ap (coveredBy x.band x.sense) is),
     )

@@ -1,18 +1,15 @@
-use mathlib.Core.Path.{◌≡◌, sym, ap, ◌∙◌}
+use mathlib.Core.Path.{◌≡◌}
 use mathlib.Core.Bool.{Bool, false, cond}
 use mathlib.Core.List.{List}
-use mathlib.Core.Logic.{⊎_elim}
 use Prim.Native.Nat.{ℕ, ◌-◌}
-use native.Mathlib.Omega.{arith}
 use lib.IntN.{pos}
 use lib.ListN.{get_or}
-use mir.Syntax.{w64}
-use mir.Val.{to_z}
 use Rattle.inside.specs.Lines.{inRows}
-use Rattle.inside.proofs.Cells.{Changed, none-changed, cell-changed, all-changed}
+use Rattle.inside.proofs.Cells.{Changed}
 use Rattle.coverage.specs.Coverage.{coveredBy}
 use Rattle.coverage.proofs.marks.mark_flips.Given as goal
 
+-- the mark in place k
 abbrev pub marked : Bool → ℕ → List Bool → ℕ → Bool → Bool
 marked band sense cells k t = coveredBy band sense (cond (get_or cells (inRows k) false) (pos 1) (pos 0))
 

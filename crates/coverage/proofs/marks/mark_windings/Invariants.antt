@@ -1,16 +1,13 @@
-use mathlib.Core.Path.{sym, ap, ◌∙◌}
 use mathlib.Core.Bool.{Bool, false}
 use mathlib.Core.List.{List}
 use Prim.Native.Nat.{ℕ, ◌-◌}
-use native.Mathlib.Omega.{arith}
 use lib.IntN.{ℤ, pos}
 use lib.ListN.{get_or}
-use mir.Syntax.{w64}
-use mir.ValLaws.{to_z-of_z}
-use Rattle.inside.proofs.Cells.{Changed, none-changed, cell-changed, all-changed}
+use Rattle.inside.proofs.Cells.{Changed}
 use Rattle.coverage.specs.Coverage.{coveredBy}
 use Rattle.coverage.proofs.marks.mark_windings.Given as goal
 
+-- the mark in place k
 abbrev pub marked : Bool → ℕ → List ℤ → ℕ → Bool → Bool
 marked band sense sums k t = coveredBy band sense (get_or sums k (pos 0))
 

@@ -1,17 +1,13 @@
 -- `coverage::winding::add_column` adds the definition's step to every cell: where just one end is above w, 1 or -1 to
 -- the cells above the threshold; else nothing.
 use mathlib.Core.Path.{◌≡◌, sym, ◌∙◌}
-use mathlib.Core.Bool.{true}
-use Prim.Native.Nat.{◌≤◌}
-use lib.IntN.{pos, nat_abs}
-use lib.Ieee.{lt}
+use lib.IntN.{pos}
 use lib.ListN.{get_or}
 use mir.Syntax.{w64}
 use mir.Val.{to_z, of_z}
 use mir.ValLaws.{to_z-of_z}
 use Rattle.coverage.specs.Coverage.{step}
-use Rattle.coverage.proofs.Windings.{add-none, one-at-most}
-use borrow.Author.Rules.{rules}
+use Rattle.coverage.proofs.Windings.{add-none}
 use Rattle.coverage.proofs.winding.add_column.Goals as goal
 
 pub returns-then-just_one_above : goal.returns-then-just_one_above

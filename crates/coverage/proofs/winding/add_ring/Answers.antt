@@ -2,20 +2,18 @@
 -- over the segments that are left, from the point a before place k and the cell, gives the whole sum, and the cell has
 -- grown by at most k in magnitude. A turn adds one segment's step, at most 1 in magnitude, so no sum overflows: a list
 -- has fewer than 2 ^ 60 numbers. The closing segment comes after the loop.
-use mathlib.Core.Path.{◌≡◌, sym, ap, ◌∙◌}
+use mathlib.Core.Path.{sym, ap, ◌∙◌}
 use mathlib.Core.List.{[], ◌∷◌, foldl}
-use Prim.Native.Nat.{ℕ, ◌+◌, ◌-◌, ◌/◌, ◌^◌, ◌≤◌, ◌<◌}
 use native.Mathlib.Omega.{arith}
-use lib.IntN.{pos, nat_abs, ◌+ℤ◌}
-use lib.ListN.{length, get_or}
-use Rattle.sheet.specs.Content.{point, pairs}
+use lib.IntN.{pos}
+use lib.ListN.{get_or}
+use Rattle.sheet.specs.Content.{point}
 use Rattle.points.specs.Segments.{segment}
-use Rattle.points.proofs.Walk.{pointAt, walk-step, left, left-end}
+use Rattle.points.proofs.Walk.{pointAt, walk-step, left-end}
 use Rattle.inside.specs.Lines.{byColumns}
-use Rattle.coverage.specs.Coverage.{stepOf, windingOf}
+use Rattle.coverage.specs.Coverage.{stepOf}
 use Rattle.coverage.proofs.Windings.{windStep, winding-none, winding-start, step-small, sum-small}
 use Rattle.coverage.proofs.winding.add_ring.Goals as goal
-use Rattle.coverage.proofs.winding.add_ring.Goals.{At-loop-k}
 
 pub returns-then-count-eq0 : goal.returns-then-count-eq0
 returns-then-count-eq0 c =

@@ -1,15 +1,13 @@
-use mathlib.Core.Path.{◌≡◌, sym, ap, ◌∙◌}
-use mathlib.Core.List.{[], ◌∷◌, foldl}
-use Prim.Native.Nat.{ℕ, ◌+◌, ◌-◌, ◌/◌, ◌^◌, ◌≤◌, ◌<◌}
-use native.Mathlib.Omega.{arith}
+use mathlib.Core.Path.{◌≡◌}
+use mathlib.Core.List.{foldl}
+use Prim.Native.Nat.{ℕ, ◌+◌, ◌-◌, ◌/◌, ◌≤◌, ◌<◌}
 use lib.IntN.{pos, nat_abs, ◌+ℤ◌}
 use lib.ListN.{length, get_or}
 use Rattle.sheet.specs.Content.{point, pairs}
-use Rattle.points.specs.Segments.{segment}
-use Rattle.points.proofs.Walk.{pointAt, walk-step, left, left-end}
+use Rattle.points.proofs.Walk.{left}
 use Rattle.inside.specs.Lines.{byColumns}
-use Rattle.coverage.specs.Coverage.{stepOf, windingOf}
-use Rattle.coverage.proofs.Windings.{windStep, winding-none, winding-start, step-small, sum-small}
+use Rattle.coverage.specs.Coverage.{windingOf}
+use Rattle.coverage.proofs.Windings.{windStep}
 use Rattle.coverage.proofs.winding.add_ring.Given as goal
 
 abbrev pub invariant-loop-k : goal.invariant-loop-k

@@ -1,21 +1,17 @@
 -- `coverage::winding::add_segment` adds the segment's crossings to every cell. The invariant: the cells of the columns
 -- before i have theirs, and the turns at hand serve up to the column noted with them. A round adds the crossings of one
 -- column.
-use mathlib.Core.Path.{◌≡◌, sym, ◌∙◌}
-use Prim.Native.Nat.{ℕ, ◌+◌, ◌-◌, ◌*◌, ◌≤◌}
+use mathlib.Core.Path.{◌≡◌}
+use Prim.Native.Nat.{◌+◌, ◌-◌, ◌*◌}
 use native.Mathlib.Omega.{arith}
-use lib.IntN.{ℤ, pos, ◌+ℤ◌}
-use lib.Ieee.{Float}
+use lib.IntN.{pos}
 use lib.ListN.{length-take, length-drop}
 use Rattle.sheet.specs.Content.{point}
 use Rattle.points.specs.Segments.{gained, segment}
-use Rattle.coverage.specs.Coverage.{stepOf}
-use Rattle.coverage.specs.Lines.{Turning}
-use Rattle.inside.specs.Lines.{byColumns}
-use Rattle.inside.proofs.Cells.{Changed, none-changed, in-line, line-changed, all-changed}
+use Rattle.inside.proofs.Cells.{none-changed, in-line, line-changed, all-changed}
 use Rattle.coverage.proofs.Columns.{step-in-column}
-use Rattle.coverage.proofs.winding.add_segment.Goals as goal
 use Rattle.coverage.proofs.winding.add_segment.Invariants.{plus}
+use Rattle.coverage.proofs.winding.add_segment.Goals as goal
 
 pub loop-i-init : goal.loop-i-init
 loop-i-init c =

@@ -1,18 +1,15 @@
-use mathlib.Core.Path.{◌≡◌, sym, ◌∙◌}
 use Prim.Native.Nat.{ℕ, ◌+◌, ◌-◌, ◌*◌, ◌≤◌}
-use native.Mathlib.Omega.{arith}
 use lib.IntN.{ℤ, pos, ◌+ℤ◌}
 use lib.Ieee.{Float}
-use lib.ListN.{length-take, length-drop}
 use Rattle.sheet.specs.Content.{point}
-use Rattle.points.specs.Segments.{gained, segment}
+use Rattle.points.specs.Segments.{segment}
 use Rattle.coverage.specs.Coverage.{stepOf}
 use Rattle.coverage.specs.Lines.{Turning}
 use Rattle.inside.specs.Lines.{byColumns}
-use Rattle.inside.proofs.Cells.{Changed, none-changed, in-line, line-changed, all-changed}
-use Rattle.coverage.proofs.Columns.{step-in-column}
+use Rattle.inside.proofs.Cells.{Changed}
 use Rattle.coverage.proofs.winding.add_segment.Given as goal
 
+-- the cell in place k with what the segment adds
 abbrev pub plus : Float → Float → Float → Float → Float → ℕ → ℤ → ℤ
 plus period a-u a-v b-u b-v k n = n +ℤ stepOf period (byColumns k) (segment (point a-u a-v) (point b-u b-v))
 
