@@ -18,7 +18,7 @@ use Rattle.sheet.specs.Content.{Point}
 use Rattle.clearance.specs.Clearance.{residual}
 use Rattle.points.proofs.ColumnOrder.{holds}
 use Rattle.points.specs.Segments.{Segment}
-use Rattle.clearance.specs.Nearest.{keyTo, leastKey, stopsAt, Stop}
+use Rattle.clearance.specs.Nearest.{keyTo, leastKey, stopsAt}
 use Rattle.clearance.specs.SegmentLists.{segmentsIn, segmentAt}
 use Rattle.clearance.proofs.SegmentsRead.{segments-step, segments-end}
 
@@ -128,7 +128,3 @@ module _ (p : Point) where
     pub stops-here : (bar key : Float) (k : ℕ) → k < length xs / 4 → key ≡ keyTo p (segmentAt xs k) → le key bar ≡ true → stopsAt p bar k xs ≡ true
     unfolding stopsAt
     stops-here bar key k h is near = rw (lt-ltb k (length xs / 4) h, ← is) near
-
-    -- past the list no segment stands
-    pub none-stops : (bar : Float) → Stop p bar (length xs) xs
-    none-stops bar h = absurd (omega arith)

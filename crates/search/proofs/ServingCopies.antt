@@ -4,7 +4,6 @@
 use mathlib.Core.Path.{◌≡◌, ap, ap₂, ◌∙◌}
 use mathlib.Core.Bool.{true, not}
 use Prim.Native.Nat.{ℕ}
-use native.Mathlib.Omega.{arith}
 use lib.Dec.{T}
 use lib.Ieee.{Float, eq}
 use lib.Ieee.Fits.{and_l, and_r}
@@ -66,9 +65,3 @@ module _ (period a b : Float) (reg : regular period a b ≡ true) where
       ap₂ (λ (p q : Float). segment (point p v) (point q w))
       (moved-squeeze period mid a n.above n.centre n.start (part i) (part m) (part t) (part-up i m h) (part-up m t k) (and_l (eq x.a y.a) _ s) (and_l (not (eq x.a plusZero)) _ s₂))
       (moved-squeeze period mid b n.above n.centre n.end (part i) (part m) (part t) (part-up i m h) (part-up m t k) (and_l (eq x.b y.b) _ s₁) (and_r (not (eq x.a plusZero)) _ s₂))
-
--- a copy serves at its own column
-pub served-here : (period a b : Float) (i : ℕ) → Serves period i i a b
-served-here period a b i v w m h k =
-    let e : m ≡ i = omega arith in
-    ap (λ (n : ℕ). shiftedTo period (part n) (segment (point a v) (point b w))) e
