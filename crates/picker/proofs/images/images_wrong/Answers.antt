@@ -15,8 +15,7 @@ use Rattle.sheet.specs.Layout.{sheetOf}
 use Rattle.answers.specs.Limits.{beyond}
 use Rattle.frame.specs.Framing.{pointCount}
 use Rattle.picker.specs.ImagePick.{imageLimit, imagesWrong}
-use Rattle.picker.proofs.images.images_wrong.Statement.{statement}
-use Rattle.picker.proofs.images.images_wrong.Tie as tie
+use Rattle.picker.proofs.images.images_wrong.Goals as goal
 
 module _ (s : Sheet) (images : List Float) (n : ℕ) (counted : n ≡ 2 * pointCount s) where
   asked : 3 * (n / 2 + 1) ≡ 3 * (pointCount s + 1)
@@ -30,31 +29,12 @@ module _ (s : Sheet) (images : List Float) (n : ℕ) (counted : n ≡ 2 * pointC
   unfolding imagesWrong
   right-length h = rw (eq-eqb (length images) (3 * (pointCount s + 1)) (h ∙ asked))
 
-point-numbers-requires : tie.Need-point-numbers-requires
-point-numbers-requires c κs = search rules
+pub returns-then-images-point_numbers : goal.returns-then-images-point_numbers
+returns-then-images-point_numbers c =
+    let x = c.args in
+    sym (wrong-length (sheetOf x.s.now) x.images.now c.point_numbers.result c.point_numbers.ensures c.if-images-point_numbers.true)
 
-add-if1 : tie.Need-overflow-add-if1
-add-if1 c = search rules
-
-mul-if1 : tie.Need-overflow-mul-if1
-mul-if1 c = search rules
-
-returns : tie.Need-returns
+pub returns : goal.returns
 returns c =
-    let n = c.before in
-    let x = n.before.before.before.args in
-    sym (wrong-length (sheetOf x.s.now) x.images.now n.point-numbers.result n.point-numbers.ensures c.if1.true)
-
-any-number-beyond-requires : tie.Need-any-number-beyond-requires
-any-number-beyond-requires c κs = search rules
-
-returns-2 : tie.Need-returns-2
-returns-2 c =
-    let n = c.before.before in
-    let x = n.before.before.before.args in
-    c.any-number-beyond.ensures ∙ sym (right-length (sheetOf x.s.now) x.images.now n.point-numbers.result n.point-numbers.ensures c.before.if1.false)
-
-pub images-wrong-spec : {M : Type 1} → statement M
-images-wrong-spec =
-    tie.close
-    (tie.spec point-numbers-requires add-if1 mul-if1 returns any-number-beyond-requires returns-2)
+    let x = c.args in
+    c.any_number_beyond.ensures ∙ sym (right-length (sheetOf x.s.now) x.images.now c.point_numbers.result c.point_numbers.ensures c.if-images-point_numbers.false)
