@@ -98,7 +98,7 @@ fn what_nothing_reaches_is_named() {
 fn a_goal_elsewhere_is_no_answer() {
     for path in [
         "specs/Answers.antt",
-        "proofs/root/Proof.antt",
+        "proofs/root/Laws.antt",
         "proofs/Goals.antt",
     ] {
         let repository = Repository::new("elsewhere");
