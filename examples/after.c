@@ -3,9 +3,9 @@
  * name, then `0 X Y Z`, floats as their bits in hexadecimal, or a refusal's number.
  * From the repository's root:
  *
- *     rt staticlib capi
- *     gcc -Iinclude examples/after.c target/staticlib/libcapi.a -lm -o target/after
- *     target/after
+ *     (cd crates/capi && rt lib)
+ *     gcc -Iinclude examples/after.c crates/capi/out/libcapi.a -lm -o crates/capi/out/after
+ *     crates/capi/out/after
  */
 #include <inttypes.h>
 #include <stdio.h>

@@ -3,9 +3,9 @@
  * the program facepoint does: `0 X Y Z CLEARANCE COUNT`, floats as their bits in
  * hexadecimal, or a refusal's number. From the repository's root:
  *
- *     rt staticlib capi
- *     gcc -Iinclude examples/pick.c target/staticlib/libcapi.a -lm -o target/pick
- *     target/pick < samples/plate-b.sheet
+ *     (cd crates/capi && rt lib)
+ *     gcc -Iinclude examples/pick.c crates/capi/out/libcapi.a -lm -o crates/capi/out/pick
+ *     crates/capi/out/pick < samples/plate-b.sheet
  */
 #include <inttypes.h>
 #include <stdio.h>

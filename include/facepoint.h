@@ -2,7 +2,7 @@
  * facepoint: a point inside a trimmed face, and what is asked beside it, over the
  * C convention.
  *
- * The archive is target/staticlib/libcapi.a (`rt staticlib capi`), for x86-64
+ * The archive is crates/capi/out/libcapi.a (`rt lib` in crates/capi), for x86-64
  * Linux; of the C library it calls fmod (-lm), memset and memcpy at most.
  * It takes no memory from the heap, keeps nothing between calls and may be called
  * from several threads at once. Every call ends, and answers for every input; what

@@ -55,5 +55,5 @@ fn in_word(c: char) -> bool {
 }
 
 fn in_name(c: char) -> bool {
-    in_word(c) || "·'-".contains(c)
+    in_word(c) || "◌'-".contains(c)
 }

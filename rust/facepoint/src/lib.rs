@@ -65,8 +65,8 @@
 //!
 //! The build script of rust/calls links the archive that the environment names by
 //! FACEPOINT_ARCHIVE (its whole path), else the repository's
-//! target/staticlib/libcapi.a; where neither is there it has the archive built by `rt
-//! staticlib capi`, which wants the Rattle kit and some minutes. The archive is for
+//! crates/capi/out/libcapi.a; where neither is there it has the archive built by `rt
+//! lib` in crates/capi, which wants the Rattle kit and some minutes. The archive is for
 //! x86-64 Linux; of the C library it calls `fmod`, `memset` and `memcpy` at most.
 
 #![deny(missing_docs, unsafe_code)]

@@ -1,4 +1,4 @@
-//! The proved calls, linked from the archive that `rt staticlib capi` writes. A
+//! The proved calls, linked from the archive that `rt lib` in crates/capi writes. A
 //! slice goes over the C convention (rust/calls) as its pointer and then its length,
 //! which counts elements.
 

@@ -5,7 +5,7 @@
 
 #[cfg(not(facepoint_picker))]
 fn main() {
-    eprintln!("no archive with the three calls: run `rt staticlib capi` at the repository's root");
+    eprintln!("no archive with the three calls: run `rt lib` in crates/capi");
     std::process::exit(2);
 }
 

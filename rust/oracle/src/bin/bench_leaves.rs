@@ -3,7 +3,7 @@
 
 #[cfg(not(facepoint_archive))]
 fn main() {
-    println!("no archive to measure: run `rt staticlib capi` at the repository's root");
+    println!("no archive to measure: run `rt lib` in crates/capi");
 }
 
 #[cfg(facepoint_archive)]

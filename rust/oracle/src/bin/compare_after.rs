@@ -4,7 +4,7 @@
 
 #[cfg(not(facepoint_after))]
 fn main() {
-    eprintln!("no archive with the six calls: run `rt staticlib capi` at the repository's root");
+    eprintln!("no archive with the six calls: run `rt lib` in crates/capi");
     std::process::exit(2);
 }
 

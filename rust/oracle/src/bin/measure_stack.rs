@@ -6,7 +6,7 @@
 
 #[cfg(not(all(facepoint_picker, facepoint_after)))]
 fn main() {
-    eprintln!("no archive with all calls: run `rt staticlib capi` at the repository's root");
+    eprintln!("no archive with all calls: run `rt lib` in crates/capi");
     std::process::exit(2);
 }
 
