@@ -1,6 +1,6 @@
 -- Document 01, "Chart": the chart call, from the bytes of a sheet, the phase and the output list to the answer and the
 -- list's later contents.
-use Rattle.std.specs.Prelude.{Bool, false, not, cond, ℕ, ◌+◌, ◌*◌, eqb, ltb, length, drop, Float}
+use Rattle.std.specs.Prelude.{Bool, false, not, cond, ℕ, ◌*◌, eqb, ltb, length, drop, Float}
 use mathlib.Core.List.{List, [], ◌∷◌, ◌++◌, map, foldl}
 use Rattle.std.specs.Float.{inf, binary64}
 use Rattle.std.specs.Float.Ieee.{add, sub, mul, lt}

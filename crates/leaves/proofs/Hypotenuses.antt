@@ -2,9 +2,9 @@
 -- lesser key is not greater, the least of two hypotenuses is that of the lesser key, and the greatest
 -- that of the greater, so the least of many takes one root. A hypotenuse is never -0, never negative, and fits. Assumes
 -- nothing.
-use Rattle.std.proofs.Common.{◌≡◌, zero, false, T, List, [], ◌∷◌, refl, ap, ◌∙◌}
+use Rattle.std.proofs.Common.{◌≡◌, false, T, List, [], ◌∷◌, refl, ap, ◌∙◌}
 use mathlib.Core.List.{foldl}
-use lib.Ieee.{Float, inf, binary64, mul, le, fits, of_bits}
+use lib.Ieee.{Float, inf, binary64, mul, le, of_bits}
 use lib.Ieee.Bits.{of_bits-fits}
 use lib.Ieee.Fits.{add-fits, inf-fits}
 use Rattle.leaves.specs.Bounds.{smallerOf, largerOf}

@@ -1,6 +1,5 @@
 -- `capi::facepoint_chart` meets its contract, by those of `chart` and `put`: another length than five is refused first
 -- of all.
-use borrow.Author.Rules.{rules}
 use Rattle.chart.specs.Chart.{chartOf}
 use Rattle.capi.specs.Convention.{chartSeen}
 use Rattle.capi.proofs.Five.{chart-other-length, chart-of-five}

@@ -1,6 +1,5 @@
 -- `capi::facepoint_image_pick` meets its contract, by those of `image_pick` and `put`.
 use mathlib.Core.Path.{ap, ◌∙◌}
-use borrow.Author.Rules.{rules}
 use Rattle.answers.specs.Outcome.{Numbers}
 use Rattle.answers.specs.Returned.{returnedOf}
 use Rattle.capi.specs.Convention.{imagePickReturned}

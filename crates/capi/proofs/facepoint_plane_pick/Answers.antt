@@ -1,6 +1,5 @@
 -- `capi::facepoint_plane_pick` meets its contract, by those of `plane_pick` and `put`.
 use mathlib.Core.Path.{ap, ◌∙◌}
-use borrow.Author.Rules.{rules}
 use Rattle.answers.specs.Outcome.{Numbers}
 use Rattle.answers.specs.Returned.{returnedOf}
 use Rattle.capi.specs.Convention.{planePickReturned}

@@ -1,6 +1,5 @@
 -- `answers::forms::of_direction` has the paper's numbers of the answer that it is given, case by case.
 use mathlib.Core.Path.{sym, ap, ◌∙◌}
-use borrow.Author.Rules.{rules}
 use Rattle.answers.proofs.Papers.{paper-point, paper-refused, paper-direction, paper-no-direction}
 use Rattle.answers.specs.Answers.{directionPaper}
 use Rattle.answers.proofs.forms.of_direction.Goals as goal

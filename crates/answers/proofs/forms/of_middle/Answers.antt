@@ -1,6 +1,5 @@
 -- `answers::forms::of_middle` has the paper's numbers of the answer that it is given, case by case.
 use mathlib.Core.Path.{sym, ap, ◌∙◌}
-use borrow.Author.Rules.{rules}
 use Rattle.answers.proofs.Papers.{paper-point, paper-refused, paper-middle, paper-no-middle}
 use Rattle.answers.specs.Answers.{middlePaper}
 use Rattle.answers.proofs.forms.of_middle.Goals as goal

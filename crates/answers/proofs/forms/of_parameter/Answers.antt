@@ -1,6 +1,5 @@
 -- `answers::forms::of_parameter` has the paper's numbers of the answer that it is given, case by case.
 use mathlib.Core.Path.{sym, ap, ◌∙◌}
-use borrow.Author.Rules.{rules}
 use Rattle.answers.proofs.Papers.{paper-point, paper-refused, paper-parameter, paper-no-parameter}
 use Rattle.answers.specs.Answers.{parameterPaper}
 use Rattle.answers.proofs.forms.of_parameter.Goals as goal

@@ -1,6 +1,5 @@
 -- `answers::forms::of_position` has the paper's numbers of the answer that it is given, case by case.
 use mathlib.Core.Path.{sym, ap, ◌∙◌}
-use borrow.Author.Rules.{rules}
 use Rattle.answers.proofs.Papers.{paper-point, paper-refused, paper-position, paper-no-position}
 use Rattle.answers.specs.Answers.{positionPaper}
 use Rattle.answers.proofs.forms.of_position.Goals as goal

@@ -2,15 +2,12 @@
 -- those from the k-th on is where any of all is.
 -- A number that is beyond ends the loop, one that is not leaves the answer to the rest. The measure is how many are
 -- left.
-use mathlib.Core.Path.{◌≡◌, refl, sym, ◌∙◌}
-use Prim.Native.Nat.{◌-◌}
+use mathlib.Core.Path.{refl, sym, ◌∙◌}
 use native.Mathlib.Numerals.{add-one}
 use native.Mathlib.Omega.{arith}
-use borrow.Author.Rules.{rules}
 use lib.Ieee.{nan}
-use lib.ListN.{length, drop, drop_of_length-le}
+use lib.ListN.{drop_of_length-le}
 use lib.Seq.{drop-cons}
-use Rattle.answers.specs.Lists.{anyOf}
 use Rattle.answers.specs.Limits.{beyond}
 use Rattle.answers.proofs.AnyOf.{any-found, any-passed, any-none}
 use Rattle.answers.proofs.numbers.any_number_beyond.Goals as goal

@@ -1,4 +1,4 @@
-use Rattle.std.proofs.Common.{◌≡◌, ℕ, ◌-◌, length, drop}
+use Rattle.std.proofs.Common.{◌≡◌, ◌-◌, length, drop}
 use Rattle.answers.specs.Lists.{anyOf}
 use Rattle.answers.specs.Limits.{beyond}
 use Rattle.answers.proofs.numbers.any_number_beyond.Given as goal

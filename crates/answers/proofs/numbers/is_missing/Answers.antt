@@ -1,5 +1,4 @@
 -- `answers::numbers::is_missing` is `missing`: by the length, then by the numbers.
-use borrow.Author.Rules.{rules}
 use borrow.Author.Tests.{eq-eqb, ne_eqb}
 use Rattle.answers.specs.Limits.{missing}
 use Rattle.answers.proofs.numbers.is_missing.Goals as goal

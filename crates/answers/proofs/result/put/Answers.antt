@@ -1,8 +1,5 @@
 -- `answers::result::put` meets its contract: five stores fill a list of five with the answer's numbers, or with zeros.
 use mathlib.Core.Path.{ap, ◌∙◌}
-use native.Mathlib.Omega.{arith}
-use lib.ListN.{length-set}
-use borrow.Author.Rules.{rules}
 use Rattle.answers.specs.Answers.{paper}
 use Rattle.answers.proofs.Returning.{all-stored, five-stored, other-length, point-five, refused-five}
 use Rattle.answers.proofs.result.put.Goals as goal

@@ -2,7 +2,6 @@
 use mathlib.Core.Path.{◌∙◌}
 use Rattle.chart.specs.Chart.{answered}
 use Rattle.answers.proofs.Papers.{paper-point, point-answers}
-use borrow.Author.Rules.{rules}
 use Rattle.chart.proofs.call.answer.Goals as goal
 
 pub returns : goal.returns

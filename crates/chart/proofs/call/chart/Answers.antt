@@ -3,7 +3,6 @@
 use mathlib.Core.Path.{sym, ◌∙◌}
 use native.Mathlib.Omega.{arith}
 use Rattle.chart.proofs.Calling.{call-unread, call-no-room, call-passes}
-use borrow.Author.Rules.{rules}
 use Rattle.chart.proofs.call.chart.Goals as goal
 
 pub returns-then-refusal-ne0 : goal.returns-then-refusal-ne0

@@ -6,7 +6,6 @@ use lib.Seq.{length-take-le}
 use Rattle.sheet.proofs.Checked.{checked}
 use Rattle.frame.proofs.SheetFrame.{points-most}
 use Rattle.chart.proofs.Calling.{reads-of}
-use borrow.Author.Rules.{rules}
 use Rattle.chart.proofs.call.chart_large.Goals as goal
 
 pub slice_bounds-moved-end : goal.slice_bounds-moved-end

@@ -9,7 +9,6 @@ use Rattle.frame.proofs.Counting.{ring-number}
 use Rattle.frame.proofs.LaidOut.{laid-points}
 use Rattle.chart.proofs.Calling.{reads-of, fits-of, call-refused, call-answered}
 use Rattle.chart.proofs.Finding.{told-refused, told-chosen}
-use borrow.Author.Rules.{rules}
 use Rattle.chart.proofs.call.chart_over.Goals as goal
 
 pub returns-in-Refused : goal.returns-in-Refused

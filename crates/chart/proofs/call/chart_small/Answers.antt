@@ -5,7 +5,6 @@ use native.Mathlib.Omega.{arith}
 use lib.Seq.{length-take-le}
 use Rattle.sheet.proofs.Checked.{checked}
 use Rattle.chart.proofs.Calling.{reads-of}
-use borrow.Author.Rules.{rules}
 use Rattle.chart.proofs.call.chart_small.Goals as goal
 
 pub slice_bounds-ends-end : goal.slice_bounds-ends-end

@@ -1,12 +1,10 @@
 -- `chart::choice::chosen_from` chooses the candidate: the marks are those of all rings, the list has the numbers of the
 -- segments of all rings in its front, and the search from both is the definition's.
-use mathlib.Core.Path.{refl, sym, ◌∙◌}
+use mathlib.Core.Path.{refl, ◌∙◌}
 use Prim.Native.Nat.{◌≤◌}
 use native.Mathlib.Omega.{arith}
-use lib.Seq.{length-take-le}
 use Rattle.frame.specs.Parts.{ringsFrom}
 use Rattle.chart.proofs.Choosing.{marked, chosen-from}
-use borrow.Author.Rules.{rules}
 use Rattle.chart.proofs.choice.chosen_from.Goals as goal
 
 pub returns : goal.returns

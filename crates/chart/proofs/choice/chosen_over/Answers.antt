@@ -4,7 +4,6 @@ use mathlib.Core.Path.{ap, ◌∙◌}
 use native.Mathlib.Omega.{arith}
 use Rattle.chart.specs.Chart.{candidate}
 use Rattle.chart.proofs.Normalising.{normal-rings, normal-ascends, normal-length}
-use borrow.Author.Rules.{rules}
 use Rattle.chart.proofs.choice.chosen_over.Goals as goal
 
 pub chosen_from-requires : goal.chosen_from-requires

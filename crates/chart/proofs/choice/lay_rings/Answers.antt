@@ -1,15 +1,13 @@
 -- `chart::choice::lay_rings` lays the segments of all rings. The loop's invariant: the front of the list and the
 -- numbers of the rings that are left are the whole; the front is at most twice as long as the rings passed; and the
 -- ends that are left go up from `from`. A turn lays one ring.
-use mathlib.Core.Path.{◌≡◌, refl, ◌∙◌}
-use mathlib.Core.List.{List}
-use Prim.Native.Nat.{ℕ, ◌+◌, ◌-◌, ◌*◌, ◌/◌, ◌≤◌}
+use mathlib.Core.Path.{refl, ◌∙◌}
+use Prim.Native.Nat.{◌+◌, ◌-◌, ◌*◌, ◌/◌, ◌≤◌}
 use native.Mathlib.Omega.{arith}
-use lib.Ieee.{Float, nan}
+use lib.Ieee.{nan}
 use lib.ListN.{length, get_or, drop, length-take, length-drop}
 use Rattle.points.proofs.Anew.{anew-length}
-use Rattle.frame.specs.Parts.{ringsFrom, Ascends}
-use Rattle.chart.proofs.Choosing.{numbersOf, Laid, ring-laid, all-laid}
+use Rattle.chart.proofs.Choosing.{ring-laid, all-laid}
 use Rattle.frame.proofs.Rings.{ascends-bound, within}
 use Rattle.chart.proofs.choice.lay_rings.Goals as goal
 

@@ -1,12 +1,8 @@
-use mathlib.Core.Path.{◌≡◌, refl, ◌∙◌}
-use mathlib.Core.List.{List}
-use Prim.Native.Nat.{ℕ, ◌+◌, ◌-◌, ◌*◌, ◌/◌, ◌≤◌}
-use native.Mathlib.Omega.{arith}
-use lib.Ieee.{Float, nan}
-use lib.ListN.{length, get_or, drop, length-take, length-drop}
-use Rattle.points.proofs.Anew.{anew-length}
+use mathlib.Core.Path.{◌≡◌}
+use Prim.Native.Nat.{◌-◌, ◌*◌, ◌≤◌}
+use lib.ListN.{length, drop}
 use Rattle.frame.specs.Parts.{ringsFrom, Ascends}
-use Rattle.chart.proofs.Choosing.{numbersOf, Laid, ring-laid, all-laid}
+use Rattle.chart.proofs.Choosing.{numbersOf, Laid}
 use Rattle.chart.proofs.choice.lay_rings.Given as goal
 
 abbrev pub invariant-loop-k : goal.invariant-loop-k

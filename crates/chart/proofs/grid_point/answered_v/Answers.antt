@@ -1,6 +1,5 @@
 -- `chart::grid_point::answered_v` is the v of the answer, operation by operation.
 use Rattle.chart.specs.Chart.{answered}
-use borrow.Author.Rules.{rules}
 use Rattle.chart.proofs.grid_point.answered_v.Goals as goal
 
 pub returns : goal.returns

@@ -8,7 +8,6 @@ use mathlib.Core.Path.{◌≡◌, sym, ap₂, ◌∙◌}
 use mathlib.Core.Bool.{Bool, true}
 use native.Mathlib.Omega.{arith}
 use lib.ListN.{length}
-use Rattle.answers.specs.Outcome.{first}
 use Rattle.sheet.specs.Content.{Sheet, flat}
 use Rattle.frame.specs.declared.framing.Frame.{Frame}
 use Rattle.search.specs.declared.candidate.Candidate.{Candidate}
@@ -24,7 +23,6 @@ use Rattle.chart.specs.Chart.{candidate, chosen, normalisedBy}
 use Rattle.chart.specs.declared.grid_point.Found.TheVariants.{Chosen}
 use Rattle.chart.proofs.AnyOrder.{chosen-in}
 use Rattle.chart.proofs.Finding.{above-limit, found-refused, found-14, found-chosen}
-use borrow.Author.Rules.{rules}
 use Rattle.chart.proofs.grid_point.find.Goals as goal
 
 -- lists of the sheet's size hold its moved rings

@@ -1,5 +1,5 @@
 -- `leaves::hypotenuse::hypot` is `hypotOf`, the hypotenuse of the pair's key.
-use Rattle.std.proofs.Common.{ap, ◌∙◌, rules}
+use Rattle.std.proofs.Common.{ap, ◌∙◌}
 use Rattle.leaves.specs.Hypot.{hypotOf, hypotOfKey}
 use Rattle.leaves.proofs.hypotenuse.hypot.Goals as goal
 

@@ -1,5 +1,5 @@
 -- `leaves::hypotenuse::hypot3` is `hypot3Of`, one hypotenuse after the other.
-use Rattle.std.proofs.Common.{ap, ◌∙◌, rules}
+use Rattle.std.proofs.Common.{ap, ◌∙◌}
 use Rattle.leaves.specs.Hypot.{hypot3Of, hypotOf}
 use Rattle.leaves.proofs.hypotenuse.hypot3.Goals as goal
 

@@ -1,5 +1,4 @@
 -- `leaves::hypotenuse::hypot_of_key` is `hypotOfKey`, the root of the key.
-use Rattle.std.proofs.Common.{rules}
 use Rattle.leaves.specs.Hypot.{hypotOfKey}
 use Rattle.leaves.proofs.hypotenuse.hypot_of_key.Goals as goal
 

@@ -1,4 +1,3 @@
-use Rattle.std.proofs.Common.{ℕ}
 use Rattle.leaves.specs.Engine.{radicand}
 use Rattle.leaves.proofs.DigitSteps.{Found}
 use Rattle.leaves.proofs.square_root.digits.Given as goal

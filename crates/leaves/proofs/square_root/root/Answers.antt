@@ -1,6 +1,6 @@
 -- `leaves::square_root::root` is `rootOf`: above zero by `root_above_zero`, below it a NaN, and zeros and a NaN
 -- themselves.
-use Rattle.std.proofs.Common.{Bool, not, T, sym, subst, rules}
+use Rattle.std.proofs.Common.{Bool, not, T, sym, subst}
 use lib.Ieee.{binary64, of_bits, div}
 use Rattle.leaves.specs.Root.{rootOf}
 use Rattle.leaves.proofs.RootCases.{root-negative, root-itself}

@@ -1,10 +1,9 @@
 -- `leaves::square_root::root_above_zero`: the fields of the bits say what the value is, and each arm takes the root of
 -- that fraction.
-use Rattle.std.proofs.Common.{◌≡◌, ℕ, ◌+◌, ◌-◌, ◌/◌, ◌%◌, ◌^◌, ◌<◌, T, true, sym, subst, arith, rules}
+use Rattle.std.proofs.Common.{◌≡◌, ℕ, ◌+◌, ◌-◌, ◌/◌, ◌%◌, ◌^◌, ◌<◌, T, true, sym, subst, arith}
 use lib.Ieee.{Float, binary64, of_bits, to_bits, lt, fits}
 use Rattle.leaves.specs.Constants.{plusZero}
 use Rattle.leaves.specs.Root.{rootOf}
-use Rattle.leaves.proofs.Order.{lt-right}
 use Rattle.leaves.proofs.Packing.{Unpacked, unpacked, above-zero}
 use Rattle.leaves.proofs.PackedRoots.{lowered-power}
 use Rattle.leaves.proofs.square_root.root_above_zero.Goals as goal

@@ -1,6 +1,6 @@
 -- `leaves::square_root::root_of_even`: the engine's 54 digits, the last one rounded away and packed, are the root's
 -- bits.
-use Rattle.std.proofs.Common.{◌≡◌, ℕ, ◌+◌, ◌*◌, ◌/◌, ◌^◌, refl, ap, ◌∙◌, arith, lit≤, rules}
+use Rattle.std.proofs.Common.{◌≡◌, ℕ, ◌+◌, ◌*◌, ◌/◌, ◌^◌, refl, ap, ◌∙◌, arith}
 use lib.Ieee.{binary64, of_bits}
 use Rattle.leaves.specs.Root.{wholeRoot, rootOf}
 use Rattle.leaves.specs.Engine.{radicand}

@@ -1,5 +1,5 @@
 -- `leaves::square_root::root_of_scaled`: an odd exponent gives one of its twos to the significand.
-use Rattle.std.proofs.Common.{◌≡◌, ℕ, suc, ◌*◌, ◌/◌, ◌%◌, ◌^◌, sym, ap, ◌∙◌, mul_assoc, arith, rules}
+use Rattle.std.proofs.Common.{◌≡◌, ℕ, suc, ◌*◌, ◌/◌, ◌%◌, ◌^◌, sym, ap, ◌∙◌, mul_assoc, arith}
 use native.Mathlib.Nat.{pow-succ'}
 use Rattle.leaves.proofs.PackedRoots.{at-fraction}
 use Rattle.leaves.proofs.square_root.root_of_scaled.Goals as goal

@@ -1,5 +1,4 @@
 -- `leaves::wrapping::wrap` is `wrapOf`: the remainder by TAU, less PI.
-use Rattle.std.proofs.Common.{rules}
 use Rattle.leaves.specs.Wrap.{wrapOf}
 use Rattle.leaves.proofs.wrapping.wrap.Goals as goal
 

@@ -10,7 +10,6 @@ use Rattle.frame.proofs.Counting.{ring-number}
 use Rattle.chart.proofs.Calling.{fits-of}
 use Rattle.chart.proofs.Finding.{told-refused, told-chosen}
 use Rattle.picker.proofs.Calling.{image-reads, images-long, image-refused, image-answered}
-use borrow.Author.Rules.{rules}
 use Rattle.picker.proofs.call.image_over.Goals as goal
 
 pub overflow_sub-images : goal.overflow_sub-images

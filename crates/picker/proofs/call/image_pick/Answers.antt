@@ -6,7 +6,6 @@ use Rattle.frame.specs.Seam.{phaseChecks}
 use Rattle.frame.proofs.SheetFrame.{points-most}
 use Rattle.chart.proofs.Calling.{reads-of}
 use Rattle.picker.proofs.Calling.{image-unread, image-wrong}
-use borrow.Author.Rules.{rules}
 use Rattle.picker.proofs.call.image_pick.Goals as goal
 
 pub returns-then-refusal-ne0 : goal.returns-then-refusal-ne0

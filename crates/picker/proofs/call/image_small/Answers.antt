@@ -5,7 +5,6 @@ use native.Mathlib.Omega.{arith}
 use lib.Seq.{length-take-le}
 use Rattle.sheet.proofs.Checked.{checked}
 use Rattle.picker.proofs.Calling.{image-reads}
-use borrow.Author.Rules.{rules}
 use Rattle.picker.proofs.call.image_small.Goals as goal
 
 pub slice_bounds-ends-end : goal.slice_bounds-ends-end

@@ -5,7 +5,6 @@ use native.Mathlib.Omega.{arith}
 use lib.Seq.{length-take-le}
 use Rattle.sheet.proofs.Checked.{checked}
 use Rattle.frame.proofs.SheetFrame.{points-most}
-use borrow.Author.Rules.{rules}
 use Rattle.picker.proofs.call.plane_large.Goals as goal
 
 pub slice_bounds-moved-end : goal.slice_bounds-moved-end

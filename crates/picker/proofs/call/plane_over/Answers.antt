@@ -13,7 +13,6 @@ use Rattle.frame.proofs.Parting.{rings-are}
 use Rattle.chart.proofs.Calling.{fits-of}
 use Rattle.chart.proofs.Finding.{told-refused, told-chosen}
 use Rattle.picker.proofs.Calling.{plane-refused, plane-answered}
-use borrow.Author.Rules.{rules}
 use Rattle.picker.proofs.call.plane_over.Goals as goal
 
 pub returns-in-Refused : goal.returns-in-Refused

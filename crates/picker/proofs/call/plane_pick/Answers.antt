@@ -7,7 +7,6 @@ use Rattle.sheet.specs.Checks.{layoutChecks, contentChecks}
 use Rattle.sheet.specs.Layout.{sheetOf}
 use Rattle.picker.specs.Stages.{PlanePassed}
 use Rattle.picker.proofs.Calling.{plane-unread, plane-wrong-kind, planar}
-use borrow.Author.Rules.{rules}
 use Rattle.picker.proofs.call.plane_pick.Goals as goal
 
 pub returns-then-refusal-ne0 : goal.returns-then-refusal-ne0

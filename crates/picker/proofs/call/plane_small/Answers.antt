@@ -4,7 +4,6 @@ use Prim.Native.Nat.{◌≤◌}
 use native.Mathlib.Omega.{arith}
 use lib.Seq.{length-take-le}
 use Rattle.sheet.proofs.Checked.{checked}
-use borrow.Author.Rules.{rules}
 use Rattle.picker.proofs.call.plane_small.Goals as goal
 
 pub slice_bounds-ends-end : goal.slice_bounds-ends-end

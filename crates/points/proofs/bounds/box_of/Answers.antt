@@ -1,14 +1,9 @@
 -- `points::bounds::box_of` is the four folds of the coordinates. The invariant: each fold over the coordinates that are
 -- left, from what is found, is the whole fold.
-use mathlib.Core.Path.{◌≡◌, refl, sym, ◌∙◌}
-use mathlib.Core.List.{foldl, map}
-use Prim.Native.Nat.{◌*◌, ◌-◌, ◌≤◌}
+use mathlib.Core.Path.{refl, sym, ◌∙◌}
 use native.Mathlib.Omega.{arith}
-use borrow.Author.Rules.{rules}
 use lib.Ieee.{nan, neg, div, of_bits}
-use lib.ListN.{drop}
 use Rattle.leaves.specs.Bounds.{smallerOf, largerOf}
-use Rattle.sheet.specs.Content.{pairs}
 use Rattle.points.specs.Bounds.{axisOf, least, greatest, boxOf}
 use Rattle.points.proofs.Axes.{fold-step, fold-end}
 use Rattle.points.proofs.bounds.box_of.Goals as goal

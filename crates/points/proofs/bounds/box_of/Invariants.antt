@@ -1,14 +1,10 @@
-use mathlib.Core.Path.{◌≡◌, refl, sym, ◌∙◌}
+use mathlib.Core.Path.{◌≡◌}
 use mathlib.Core.List.{foldl, map}
 use Prim.Native.Nat.{◌*◌, ◌-◌, ◌≤◌}
-use native.Mathlib.Omega.{arith}
-use borrow.Author.Rules.{rules}
-use lib.Ieee.{nan, neg, div, of_bits}
 use lib.ListN.{drop}
 use Rattle.leaves.specs.Bounds.{smallerOf, largerOf}
 use Rattle.sheet.specs.Content.{pairs}
-use Rattle.points.specs.Bounds.{axisOf, least, greatest, boxOf}
-use Rattle.points.proofs.Axes.{fold-step, fold-end}
+use Rattle.points.specs.Bounds.{axisOf, least, greatest}
 use Rattle.points.proofs.bounds.box_of.Given as goal
 
 abbrev pub invariant-loop-k : goal.invariant-loop-k

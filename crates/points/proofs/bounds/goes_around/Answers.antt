@@ -1,7 +1,6 @@
 -- `points::bounds::goes_around` is `goesAround`: the last point's u stands at 2 * count - 2.
 use mathlib.Core.Path.{sym, ◌∙◌}
 use native.Mathlib.Omega.{arith}
-use borrow.Author.Rules.{rules}
 use Rattle.points.proofs.Ends.{around, no-points-around}
 use Rattle.points.proofs.bounds.goes_around.Goals as goal
 

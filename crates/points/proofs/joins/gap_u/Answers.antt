@@ -1,5 +1,4 @@
 -- `points::joins::gap_u` is `gapU`: each arm is what the flag picks.
-use borrow.Author.Rules.{rules}
 use Rattle.points.specs.Joins.{gapU}
 use Rattle.points.proofs.joins.gap_u.Goals as goal
 

@@ -1,15 +1,11 @@
 -- `points::joins::is_open` is `ringOpen`. The invariant: what is left of the ring, from the point (u, v) on, is open
 -- where the ring is.
-use mathlib.Core.Path.{◌≡◌, sym, ◌∙◌}
-use Prim.Native.Nat.{◌*◌, ◌-◌, ◌≤◌}
+use mathlib.Core.Path.{sym, ◌∙◌}
 use native.Mathlib.Omega.{arith}
-use borrow.Author.Rules.{rules}
 use lib.Ieee.{nan}
-use lib.ListN.{drop, get_or}
-use Rattle.sheet.specs.Content.{point, pairs}
-use Rattle.points.specs.Joins.{ringOpen, every}
+use Rattle.sheet.specs.Content.{point}
 use Rattle.points.proofs.Pairs.{pairs-step, pairs-end}
-use Rattle.points.proofs.Seams.{openFrom, open-start, open-wide, open-shut, open-along, open-end, no-points-open}
+use Rattle.points.proofs.Seams.{open-start, open-wide, open-shut, open-along, open-end, no-points-open}
 use Rattle.points.proofs.joins.is_open.Goals as goal
 use Rattle.points.proofs.joins.is_open.Goals.{then-left-eq0+else-is_wide, else-left-eq0}
 

@@ -1,14 +1,10 @@
-use mathlib.Core.Path.{◌≡◌, sym, ◌∙◌}
-use mathlib.Core.Logic.{⊎_elim}
+use mathlib.Core.Path.{◌≡◌}
 use Prim.Native.Nat.{◌*◌, ◌-◌, ◌≤◌}
-use native.Mathlib.Omega.{arith}
-use borrow.Author.Rules.{rules}
 use lib.Ieee.{nan}
 use lib.ListN.{drop, get_or}
 use Rattle.sheet.specs.Content.{point, pairs}
 use Rattle.points.specs.Joins.{ringOpen, every}
-use Rattle.points.proofs.Pairs.{pairs-step, pairs-end}
-use Rattle.points.proofs.Seams.{openFrom, open-start, open-wide, open-shut, open-along, open-end, no-points-open}
+use Rattle.points.proofs.Seams.{openFrom}
 use Rattle.points.proofs.joins.is_open.Given as goal
 
 abbrev pub invariant-loop-k : goal.invariant-loop-k

@@ -1,5 +1,4 @@
 -- `points::joins::is_wide` is `wide` of the join.
-use borrow.Author.Rules.{rules}
 use Rattle.leaves.proofs.ConstantBits.{joinLimit-bits}
 use Rattle.points.specs.Joins.{gap, wide}
 use Rattle.points.proofs.joins.is_wide.Goals as goal

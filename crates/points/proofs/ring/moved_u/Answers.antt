@@ -1,6 +1,5 @@
 -- `points::ring::moved_u` is the u of `moved`: each arm is what the tests pick.
 use borrow.Author.Tests.{le-leb, lt-leb}
-use borrow.Author.Rules.{rules}
 use Rattle.points.specs.Unroll.{moved}
 use Rattle.points.proofs.ring.moved_u.Goals as goal
 

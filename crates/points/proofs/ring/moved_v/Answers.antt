@@ -1,6 +1,5 @@
 -- `points::ring::moved_v` is the v of `moved`: each arm is what the test picks.
 use borrow.Author.Tests.{eq-eqb, ne_eqb}
-use borrow.Author.Rules.{rules}
 use Rattle.points.specs.Unroll.{moved}
 use Rattle.points.proofs.ring.moved_v.Goals as goal
 

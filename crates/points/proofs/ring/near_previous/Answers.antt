@@ -1,5 +1,4 @@
 -- `points::ring::near_previous` is `near`.
-use borrow.Author.Rules.{rules}
 use Rattle.points.specs.Unroll.{near}
 use Rattle.points.proofs.ring.near_previous.Goals as goal
 

@@ -2,15 +2,12 @@
 -- written the first k are.
 use mathlib.Core.List.{map}
 use mathlib.Core.Path.{sym, ap}
-use Prim.Native.Nat.{◌*◌, ◌-◌, ◌≤◌}
 use native.Mathlib.Omega.{arith}
 use lib.Ieee.{nan}
-use lib.ListN.{length, drop, length-set}
-use Rattle.sheet.specs.Content.{pairs}
 use Rattle.answers.proofs.Over.{over-short}
 use Rattle.points.specs.Normalise.{normal}
 use Rattle.points.proofs.Flat.{changed-room}
-use Rattle.points.proofs.InPlace.{Written, none-written, point-written, over-written}
+use Rattle.points.proofs.InPlace.{none-written, point-written, over-written}
 use Rattle.points.proofs.Pairs.{pairs-step, pairs-end}
 use Rattle.points.proofs.ring.normalise.Goals as goal
 

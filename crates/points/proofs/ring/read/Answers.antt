@@ -1,13 +1,8 @@
 -- `points::ring::read` writes the ring's points over the front of the list. The invariant: those of the first k coedges
 -- are written, 17 each.
-use Prim.Native.Nat.{◌+◌, ◌*◌, ◌-◌, ◌≤◌}
 use native.Mathlib.Nat.{sub-zero}
 use native.Mathlib.Omega.{arith}
-use borrow.Author.Rules.{rules}
-use lib.ListN.{drop, length-take, length-drop}
-use Rattle.sheet.specs.Content.{ringPoints}
-use Rattle.sheet.specs.Layout.{coedges}
-use Rattle.points.proofs.InPlace.{Written, none-written}
+use Rattle.points.proofs.InPlace.{none-written}
 use Rattle.points.proofs.BlockPoints.{ring-end, coedge-written, ring-read, ring-unread}
 use Rattle.points.proofs.ring.read.Goals as goal
 

@@ -1,12 +1,8 @@
 use Prim.Native.Nat.{◌+◌, ◌*◌, ◌-◌, ◌≤◌}
-use native.Mathlib.Nat.{sub-zero}
-use native.Mathlib.Omega.{arith}
-use borrow.Author.Rules.{rules}
-use lib.ListN.{drop, length-take, length-drop}
+use lib.ListN.{drop}
 use Rattle.sheet.specs.Content.{ringPoints}
 use Rattle.sheet.specs.Layout.{coedges}
-use Rattle.points.proofs.InPlace.{Written, none-written}
-use Rattle.points.proofs.BlockPoints.{ring-end, coedge-written, ring-read, ring-unread}
+use Rattle.points.proofs.InPlace.{Written}
 use Rattle.points.proofs.ring.read.Given as goal
 
 abbrev pub invariant-loop-k : goal.invariant-loop-k

@@ -1,12 +1,8 @@
 -- `points::ring::read_coedge` writes the points of the coedge. The invariant: of the coedge's points the first k are
 -- written.
-use Prim.Native.Nat.{◌+◌, ◌*◌, ◌-◌, ◌≤◌}
 use native.Mathlib.Nat.{add-zero}
 use native.Mathlib.Omega.{arith}
-use borrow.Author.Rules.{rules}
-use lib.ListN.{drop, length-set}
-use Rattle.sheet.specs.Layout.{points as pointsOf}
-use Rattle.points.proofs.InPlace.{Written, none-written, point-written, all-filled}
+use Rattle.points.proofs.InPlace.{none-written, point-written, all-filled}
 use Rattle.points.proofs.BlockPoints.{points-step, points-end}
 use Rattle.points.proofs.ring.read_coedge.Goals as goal
 

@@ -1,11 +1,7 @@
 use Prim.Native.Nat.{◌+◌, ◌*◌, ◌-◌, ◌≤◌}
-use native.Mathlib.Nat.{add-zero}
-use native.Mathlib.Omega.{arith}
-use borrow.Author.Rules.{rules}
-use lib.ListN.{drop, length-set}
+use lib.ListN.{drop}
 use Rattle.sheet.specs.Layout.{points as pointsOf}
-use Rattle.points.proofs.InPlace.{Written, none-written, point-written, all-filled}
-use Rattle.points.proofs.BlockPoints.{points-step, points-end}
+use Rattle.points.proofs.InPlace.{Written}
 use Rattle.points.proofs.ring.read_coedge.Given as goal
 
 abbrev pub invariant-loop-k : goal.invariant-loop-k

@@ -1,17 +1,13 @@
 -- `points::ring::unroll` moves every point. The invariant: of the moved points the first k are written, and the last of
 -- them is (u, v).
-use mathlib.Core.Path.{◌≡◌, ap, ◌∙◌}
-use mathlib.Core.List.{◌∷◌}
-use Prim.Native.Nat.{◌-◌, ◌/◌, ◌≤◌}
+use mathlib.Core.Path.{ap}
 use native.Mathlib.Omega.{arith}
-use borrow.Author.Rules.{rules}
 use lib.Ieee.{nan}
-use lib.ListN.{length, length-set}
-use Rattle.sheet.specs.Content.{point}
+use lib.ListN.{length-set}
 use Rattle.points.specs.Unroll.{unrolled, movedRing}
-use Rattle.points.proofs.InPlace.{Written, none-written, points-changed}
+use Rattle.points.proofs.InPlace.{none-written, points-changed}
 use Rattle.points.proofs.Pairs.{pairs-end}
-use Rattle.points.proofs.Unrolling.{after, first-unrolled, next-unrolled, all-unrolled}
+use Rattle.points.proofs.Unrolling.{first-unrolled, next-unrolled, all-unrolled}
 use Rattle.points.proofs.ring.unroll.Goals as goal
 
 pub returns-then-count-eq0 : goal.returns-then-count-eq0

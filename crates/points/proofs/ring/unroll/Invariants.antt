@@ -1,15 +1,10 @@
-use mathlib.Core.Path.{◌≡◌, ap, ◌∙◌}
+use mathlib.Core.Path.{◌≡◌}
 use mathlib.Core.List.{◌∷◌}
 use Prim.Native.Nat.{◌-◌, ◌/◌, ◌≤◌}
-use native.Mathlib.Omega.{arith}
-use borrow.Author.Rules.{rules}
-use lib.Ieee.{nan}
-use lib.ListN.{length, length-set}
+use lib.ListN.{length}
 use Rattle.sheet.specs.Content.{point}
-use Rattle.points.specs.Unroll.{unrolled, movedRing}
-use Rattle.points.proofs.InPlace.{Written, none-written, points-changed}
-use Rattle.points.proofs.Pairs.{pairs-end}
-use Rattle.points.proofs.Unrolling.{after, first-unrolled, next-unrolled, all-unrolled}
+use Rattle.points.proofs.InPlace.{Written}
+use Rattle.points.proofs.Unrolling.{after}
 use Rattle.points.proofs.ring.unroll.Given as goal
 
 abbrev pub invariant-loop-k : goal.invariant-loop-k

@@ -1,6 +1,5 @@
 -- `points::ring::wrapped_v` is the v of `wrapped`: each arm is what the test picks.
 use borrow.Author.Tests.{eq-eqb, ne_eqb}
-use borrow.Author.Rules.{rules}
 use Rattle.points.specs.Unroll.{wrapped}
 use Rattle.points.proofs.ring.wrapped_v.Goals as goal
 

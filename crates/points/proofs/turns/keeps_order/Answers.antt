@@ -1,7 +1,6 @@
 -- `points::turns::keeps_order` is `keepsOrder`, test by test.
 use mathlib.Core.Path.{◌∙◌}
 use Rattle.points.specs.Turns.{keepsOrder}
-use borrow.Author.Rules.{rules}
 use Rattle.points.proofs.turns.keeps_order.Goals as goal
 
 pub returns-then-is_number : goal.returns-then-is_number

@@ -1,5 +1,4 @@
 -- `points::turns::turns` is `turns`: `round` gives the whole number.
-use borrow.Author.Rules.{rules}
 use Rattle.points.specs.Turns.{turns}
 use Rattle.points.proofs.turns.turns.Goals as goal
 

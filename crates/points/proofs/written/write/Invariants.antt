@@ -1,16 +1,9 @@
 use mathlib.Core.List.{map}
-use mathlib.Core.Path.{sym, ap}
 use Prim.Native.Nat.{◌*◌, ◌-◌, ◌≤◌}
-use native.Mathlib.Omega.{arith}
-use borrow.Author.Rules.{rules}
-use lib.Ieee.{nan}
-use lib.ListN.{length, drop, length-set}
+use lib.ListN.{length, drop}
 use Rattle.sheet.specs.Content.{pairs}
-use Rattle.answers.proofs.Over.{over-short}
 use Rattle.points.specs.Written.{writtenPoint}
-use Rattle.points.proofs.Flat.{changed-room}
-use Rattle.points.proofs.InPlace.{Written, none-written, point-written, over-written}
-use Rattle.points.proofs.Pairs.{pairs-step, pairs-end}
+use Rattle.points.proofs.InPlace.{Written}
 use Rattle.points.proofs.written.write.Given as goal
 
 abbrev pub invariant-loop-k : goal.invariant-loop-k

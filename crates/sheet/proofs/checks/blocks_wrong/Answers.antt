@@ -1,7 +1,6 @@
 -- `sheet::checks::blocks_wrong` is check 5: the blocks are walked where the head does not overrun the end.
 use borrow.Author.Tests.{lt-ltb, le-ltb}
 use Rattle.sheet.specs.Checks.{blocksWrong}
-use borrow.Author.Rules.{rules}
 use Rattle.sheet.proofs.checks.blocks_wrong.Goals as goal
 
 pub returns-then-s-from : goal.returns-then-s-from

@@ -1,7 +1,6 @@
 -- `sheet::checks::count_wrong` is check 4: the upper bound is tested where the count is not 0.
 use borrow.Author.Tests.{eq-eqb, ne_eqb}
 use Rattle.sheet.specs.Checks.{countWrong}
-use borrow.Author.Rules.{rules}
 use Rattle.sheet.proofs.checks.count_wrong.Goals as goal
 
 pub returns-then-byte_at-eq0 : goal.returns-then-byte_at-eq0

@@ -1,7 +1,6 @@
 -- `sheet::checks::kind_wrong` is check 3: the sense is tested where the kind passes.
 use borrow.Author.Tests.{lt-ltb, le-ltb}
 use Rattle.sheet.specs.Checks.{kindWrong}
-use borrow.Author.Rules.{rules}
 use Rattle.sheet.proofs.checks.kind_wrong.Goals as goal
 
 pub returns-then-byte_at-gt6 : goal.returns-then-byte_at-gt6

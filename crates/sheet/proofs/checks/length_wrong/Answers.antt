@@ -1,7 +1,6 @@
 -- `sheet::checks::length_wrong` is check 1: under eight bytes no length is read.
 use borrow.Author.Tests.{lt-ltb, le-ltb}
 use Rattle.sheet.specs.Checks.{lengthWrong}
-use borrow.Author.Rules.{rules}
 use Rattle.sheet.proofs.checks.length_wrong.Goals as goal
 
 pub returns-then-s-lt8 : goal.returns-then-s-lt8

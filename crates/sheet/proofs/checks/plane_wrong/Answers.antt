@@ -2,7 +2,6 @@
 -- kind has a plane.
 use mathlib.Core.Path.{sym, ◌∙◌}
 use Rattle.sheet.proofs.Walks.{plane-is, no-plane}
-use borrow.Author.Rules.{rules}
 use Rattle.sheet.proofs.checks.plane_wrong.Goals as goal
 
 pub returns-then-any_beyond : goal.returns-then-any_beyond

@@ -2,17 +2,14 @@
 -- answer has the facts of the tests before it.
 -- Check 5 has passed where the rings are walked, so the blocks fill the sheet.
 use mathlib.Core.Path.{◌≡◌, sym, ap, ◌∙◌}
-use mathlib.Core.Bool.{cond, ◌||◌}
-use mathlib.Core.List.{List, ◌++◌, map}
+use mathlib.Core.List.{List, map}
 use lib.ListN.{drop}
 use Rattle.sheet.specs.Content.{Coedge}
 use Prim.Native.Nat.{ℕ}
 use Rattle.answers.specs.Lists.{anyOf}
-use Rattle.sheet.specs.Layout.{kind, headSize, plane, sheetOf, ringCount, cut, ring}
-use Rattle.sheet.specs.Checks.{versionWrong, kindWrong, countWrong, blocksWrong, coedgesWrong, planeWrong, ringWrong, layoutChecks, contentChecks}
-use Rattle.answers.specs.Outcome.{first}
+use Rattle.sheet.specs.Layout.{kind, headSize, ringCount, cut, ring}
+use Rattle.sheet.specs.Checks.{coedgesWrong, ringWrong}
 use Rattle.sheet.proofs.Checked.{ringsOf, table, blocks-right, head-size-most}
-use borrow.Author.Rules.{rules}
 use Rattle.sheet.proofs.checks.refusal.Goals as goal
 
 -- where the rings stand

@@ -1,6 +1,5 @@
 -- `sheet::checks::version_wrong` is check 2.
 use Rattle.sheet.specs.Checks.{versionWrong}
-use borrow.Author.Rules.{rules}
 use Rattle.sheet.proofs.checks.version_wrong.Goals as goal
 
 pub returns : goal.returns

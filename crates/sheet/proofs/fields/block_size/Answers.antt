@@ -1,7 +1,6 @@
 -- `sheet::fields::block_size` is one byte and 280 more for each coedge that the byte at the place counts.
 use lib.Seq.{get_or-drop}
 use native.Mathlib.Nat.{add-zero}
-use borrow.Author.Rules.{rules}
 use Rattle.sheet.specs.Layout.{blockSize}
 use Rattle.sheet.proofs.fields.block_size.Goals as goal
 

@@ -5,7 +5,6 @@ use native.Mathlib.Omega.{arith}
 use lib.ListN.{drop, length-drop}
 use Rattle.sheet.specs.Layout.{numberOf}
 use Rattle.sheet.proofs.Bytes.{two-words, number-short, number-whole}
-use borrow.Author.Rules.{rules}
 use Rattle.sheet.proofs.fields.number.Goals as goal
 
 pub returns-then-s-lt8 : goal.returns-then-s-lt8

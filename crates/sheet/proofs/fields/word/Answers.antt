@@ -2,7 +2,6 @@
 -- law of four bytes says the rest.
 use native.Mathlib.Omega.{arith}
 use Rattle.sheet.proofs.Bytes.{word-at}
-use borrow.Author.Rules.{rules}
 use Rattle.sheet.proofs.fields.word.Goals as goal
 
 pub returns : goal.returns

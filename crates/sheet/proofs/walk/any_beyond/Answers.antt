@@ -2,17 +2,14 @@
 -- k-th on is where any of all is.
 -- A number that is beyond ends the loop, one that is not leaves the answer to the rest. The measure is how many are
 -- left.
-use mathlib.Core.Path.{◌≡◌, sym, ap, ◌∙◌}
-use Prim.Native.Nat.{◌+◌, ◌-◌, ◌*◌, ◌≤◌}
+use mathlib.Core.Path.{sym, ap, ◌∙◌}
+use Prim.Native.Nat.{◌+◌, ◌*◌}
 use native.Mathlib.Nat.{sub-zero, add-zero}
 use native.Mathlib.Omega.{arith}
 use lib.ListN.{drop}
-use Rattle.answers.specs.Lists.{anyOf}
-use Rattle.sheet.specs.Layout.{numbers}
 use Rattle.answers.specs.Limits.{beyond}
 use Rattle.answers.proofs.AnyOf.{any-found, any-passed, any-none}
 use Rattle.sheet.proofs.Walks.{numbers-step, numbers-end}
-use borrow.Author.Rules.{rules}
 use Rattle.sheet.proofs.walk.any_beyond.Goals as goal
 
 pub loop-k-init : goal.loop-k-init

@@ -1,14 +1,9 @@
-use mathlib.Core.Path.{◌≡◌, sym, ap, ◌∙◌}
+use mathlib.Core.Path.{◌≡◌}
 use Prim.Native.Nat.{◌+◌, ◌-◌, ◌*◌, ◌≤◌}
-use native.Mathlib.Nat.{sub-zero, add-zero}
-use native.Mathlib.Omega.{arith}
 use lib.ListN.{drop}
 use Rattle.answers.specs.Lists.{anyOf}
 use Rattle.sheet.specs.Layout.{numbers}
 use Rattle.answers.specs.Limits.{beyond}
-use Rattle.answers.proofs.AnyOf.{any-found, any-passed, any-none}
-use Rattle.sheet.proofs.Walks.{numbers-step, numbers-end}
-use borrow.Author.Rules.{rules}
 use Rattle.sheet.proofs.walk.any_beyond.Given as goal
 
 abbrev pub invariant-loop-k : goal.invariant-loop-k

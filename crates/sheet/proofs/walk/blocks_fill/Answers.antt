@@ -1,12 +1,9 @@
 -- `sheet::walk::blocks_fill` says whether the blocks fill the bytes from `from` on. The invariant: what is left of the
 -- blocks fills the bytes from `at` on as all fill all.
 -- A block that overruns the end ends the loop, another leaves the answer to the rest. The measure is how many are left.
-use mathlib.Core.Path.{◌≡◌, sym, ◌∙◌}
-use Prim.Native.Nat.{◌-◌, ◌≤◌}
+use mathlib.Core.Path.{sym, ◌∙◌}
 use native.Mathlib.Nat.{sub-zero}
 use native.Mathlib.Omega.{arith}
-use lib.ListN.{length, drop}
-use Rattle.sheet.specs.Checks.{fill}
 use Rattle.sheet.proofs.Walks.{fill-step, fill-short, fill-end}
 use borrow.Author.Rules.{rules}
 use Rattle.sheet.proofs.walk.blocks_fill.Goals as goal

@@ -1,11 +1,7 @@
-use mathlib.Core.Path.{◌≡◌, sym, ◌∙◌}
+use mathlib.Core.Path.{◌≡◌}
 use Prim.Native.Nat.{◌-◌, ◌≤◌}
-use native.Mathlib.Nat.{sub-zero}
-use native.Mathlib.Omega.{arith}
 use lib.ListN.{length, drop}
 use Rattle.sheet.specs.Checks.{fill}
-use Rattle.sheet.proofs.Walks.{fill-step, fill-short, fill-end}
-use borrow.Author.Rules.{rules}
 use Rattle.sheet.proofs.walk.blocks_fill.Given as goal
 
 abbrev pub invariant-loop-k : goal.invariant-loop-k

@@ -3,7 +3,6 @@
 use lib.ListN.{drop}
 use lib.Seq.{drop-drop}
 use Rattle.sheet.proofs.Walks.{coedge-is}
-use borrow.Author.Rules.{rules}
 use Rattle.sheet.proofs.walk.coedge_wrong.Goals as goal
 
 pub returns-then-deviation-2 : goal.returns-then-deviation-2

@@ -2,16 +2,14 @@
 -- `total` coedges counted before them, as on all;
 -- a block has at most 71401 bytes and a ring at most 255 coedges, so neither sum wraps. A ring with no coedge ends the
 -- loop, another adds its count. The measure is how many are left.
-use mathlib.Core.Path.{◌≡◌, sym, ◌∙◌}
+use mathlib.Core.Path.{sym, ◌∙◌}
 use mathlib.Core.List.{map}
-use Prim.Native.Nat.{◌+◌, ◌-◌, ◌*◌, ◌≤◌}
 use native.Mathlib.Nat.{sub-zero}
 use native.Mathlib.Omega.{arith}
 use lib.ListN.{drop}
 use Rattle.sheet.specs.Layout.{ring, cut}
-use Rattle.sheet.specs.Checks.{coedgesWrong}
 use Rattle.sheet.proofs.Blocks.{block-size-at}
-use Rattle.sheet.proofs.Walks.{wrongFrom, wrong-start, wrong-found, wrong-passed, wrong-end}
+use Rattle.sheet.proofs.Walks.{wrong-start, wrong-found, wrong-passed, wrong-end}
 use borrow.Author.Rules.{rules}
 use Rattle.sheet.proofs.walk.coedges_wrong.Goals as goal
 

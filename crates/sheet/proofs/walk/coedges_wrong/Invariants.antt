@@ -1,14 +1,10 @@
-use mathlib.Core.Path.{◌≡◌, sym, ◌∙◌}
+use mathlib.Core.Path.{◌≡◌}
 use mathlib.Core.List.{map}
 use Prim.Native.Nat.{◌+◌, ◌-◌, ◌*◌, ◌≤◌}
-use native.Mathlib.Nat.{sub-zero}
-use native.Mathlib.Omega.{arith}
 use lib.ListN.{drop}
 use Rattle.sheet.specs.Layout.{ring, cut}
 use Rattle.sheet.specs.Checks.{coedgesWrong}
-use Rattle.sheet.proofs.Blocks.{block-size-at}
-use Rattle.sheet.proofs.Walks.{wrongFrom, wrong-start, wrong-found, wrong-passed, wrong-end}
-use borrow.Author.Rules.{rules}
+use Rattle.sheet.proofs.Walks.{wrongFrom}
 use Rattle.sheet.proofs.walk.coedges_wrong.Given as goal
 
 abbrev pub invariant-loop-k : goal.invariant-loop-k

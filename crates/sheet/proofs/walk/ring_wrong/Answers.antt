@@ -1,17 +1,15 @@
 -- `sheet::walk::ring_wrong` says whether check 7 fails on any coedge. The invariant: on those from the k-th on it fails
 -- as on all.
 -- A coedge on which it fails ends the loop, another leaves the answer to the rest. The measure is how many are left.
-use mathlib.Core.Path.{◌≡◌, sym, ◌∙◌}
-use Prim.Native.Nat.{◌+◌, ◌-◌, ◌*◌, ◌≤◌}
+use mathlib.Core.Path.{sym, ◌∙◌}
+use Prim.Native.Nat.{◌+◌, ◌*◌}
 use native.Mathlib.Nat.{sub-zero}
 use native.Mathlib.Omega.{arith}
 use lib.ListN.{drop}
-use Rattle.answers.specs.Lists.{anyOf}
-use Rattle.sheet.specs.Layout.{coedges, ring}
+use Rattle.sheet.specs.Layout.{ring}
 use Rattle.sheet.specs.Checks.{coedgeWrong, ringWrong}
 use Rattle.answers.proofs.AnyOf.{any-found, any-passed, any-none}
 use Rattle.sheet.proofs.Walks.{coedges-step, coedges-end}
-use borrow.Author.Rules.{rules}
 use Rattle.sheet.proofs.walk.ring_wrong.Goals as goal
 
 pub loop-k-init : goal.loop-k-init

@@ -1,14 +1,9 @@
-use mathlib.Core.Path.{◌≡◌, sym, ◌∙◌}
+use mathlib.Core.Path.{◌≡◌}
 use Prim.Native.Nat.{◌+◌, ◌-◌, ◌*◌, ◌≤◌}
-use native.Mathlib.Nat.{sub-zero}
-use native.Mathlib.Omega.{arith}
 use lib.ListN.{drop}
 use Rattle.answers.specs.Lists.{anyOf}
 use Rattle.sheet.specs.Layout.{coedges, ring}
 use Rattle.sheet.specs.Checks.{coedgeWrong, ringWrong}
-use Rattle.answers.proofs.AnyOf.{any-found, any-passed, any-none}
-use Rattle.sheet.proofs.Walks.{coedges-step, coedges-end}
-use borrow.Author.Rules.{rules}
 use Rattle.sheet.proofs.walk.ring_wrong.Given as goal
 
 abbrev pub invariant-loop-k : goal.invariant-loop-k

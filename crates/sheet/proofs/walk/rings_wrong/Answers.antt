@@ -2,18 +2,16 @@
 -- as on all, and the blocks left fill the bytes left, so each block is a part of the sheet.
 -- A ring on which it fails ends the loop, another leaves the answer to the rest. The measure is how many are left.
 use mathlib.Core.Path.{◌≡◌, sym, ap, ◌∙◌}
-use mathlib.Core.Bool.{Bool, true}
-use mathlib.Core.List.{List, map}
+use mathlib.Core.Bool.{Bool}
+use mathlib.Core.List.{List}
 use Prim.Native.Nat.{ℕ, ◌+◌, ◌-◌, ◌≤◌}
 use native.Mathlib.Nat.{sub-zero}
 use native.Mathlib.Omega.{arith}
 use lib.ListN.{length, take, drop}
-use Rattle.answers.specs.Lists.{anyOf}
-use Rattle.sheet.specs.Layout.{blockSize, cut, ring}
-use Rattle.sheet.specs.Checks.{fill, ringWrong}
+use Rattle.sheet.specs.Layout.{blockSize, ring}
+use Rattle.sheet.specs.Checks.{ringWrong}
 use Rattle.answers.proofs.AnyOf.{any-found, any-passed, any-none}
 use Rattle.sheet.proofs.Walks.{rings-step, rings-end, fill-step, fill-room}
-use borrow.Author.Rules.{rules}
 use Rattle.sheet.proofs.walk.rings_wrong.Goals as goal
 use Rattle.sheet.proofs.walk.rings_wrong.Goals.{After-block_size}
 

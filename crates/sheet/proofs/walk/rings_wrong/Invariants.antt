@@ -1,16 +1,11 @@
-use mathlib.Core.Path.{◌≡◌, sym, ap, ◌∙◌}
+use mathlib.Core.Path.{◌≡◌}
 use mathlib.Core.Bool.{true}
 use mathlib.Core.List.{map}
-use Prim.Native.Nat.{ℕ, ◌+◌, ◌-◌, ◌≤◌}
-use native.Mathlib.Nat.{sub-zero}
-use native.Mathlib.Omega.{arith}
-use lib.ListN.{length, take, drop}
+use Prim.Native.Nat.{◌-◌, ◌≤◌}
+use lib.ListN.{length, drop}
 use Rattle.answers.specs.Lists.{anyOf}
-use Rattle.sheet.specs.Layout.{blockSize, cut, ring}
+use Rattle.sheet.specs.Layout.{cut, ring}
 use Rattle.sheet.specs.Checks.{fill, ringWrong}
-use Rattle.answers.proofs.AnyOf.{any-found, any-passed, any-none}
-use Rattle.sheet.proofs.Walks.{rings-step, rings-end, fill-step, fill-room}
-use borrow.Author.Rules.{rules}
 use Rattle.sheet.proofs.walk.rings_wrong.Given as goal
 
 abbrev pub invariant-loop-k : goal.invariant-loop-k
