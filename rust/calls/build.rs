@@ -3,8 +3,8 @@
 //! 1. the file that the environment names by FACEPOINT_ARCHIVE, or none where it says
 //!    `none`,
 //! 2. the repository's crates/capi/out/libcapi.a, as it stands,
-//! 3. with the feature `archive`: `rt lib capi` at the repository's root, which
-//!    proves and writes it.
+//! 3. with the feature `archive`: `rt lib` in crates/capi, which proves and writes
+//!    it.
 //!
 //! Without the feature nothing is linked where there is no archive. A named file that
 //! is missing is an error either way.
@@ -66,7 +66,7 @@ fn named_archive(named: PathBuf) -> Result<Option<PathBuf>, Complaint> {
     };
     Err(vec![
         format!("FACEPOINT_ARCHIVE names no file: {}", named.display()),
-        format!("name the archive that `rt lib capi` writes,{without} or leave the variable unset"),
+        format!("name the archive that `rt lib` in crates/capi writes,{without} or leave the variable unset"),
     ])
 }
 
@@ -92,8 +92,8 @@ fn build_archive(root: &Path) -> Result<(), Complaint> {
         ]);
     }
     let run = Command::new("rt")
-        .args(["lib", "capi"])
-        .current_dir(root)
+        .arg("lib")
+        .current_dir(root.join("crates/capi"))
         .output();
     match run {
         Ok(output) if output.status.success() => Ok(()),
@@ -101,7 +101,7 @@ fn build_archive(root: &Path) -> Result<(), Complaint> {
             let said = [output.stdout, output.stderr].concat();
             let said = String::from_utf8_lossy(&said);
             let lines: Vec<&str> = said.lines().collect();
-            let mut complaint = vec![format!("`rt lib capi` failed: {}", output.status)];
+            let mut complaint = vec![format!("`rt lib` in crates/capi failed: {}", output.status)];
             let last = lines.iter().skip(lines.len().saturating_sub(20));
             complaint.extend(last.map(|line| line.to_string()));
             Err(complaint)
@@ -110,7 +110,7 @@ fn build_archive(root: &Path) -> Result<(), Complaint> {
             "the archive of the proved calls is not built, and the Rattle kit is missing: no `rt` on the PATH".into(),
             "put the kit's bin/ on the PATH, or name a built libcapi.a by FACEPOINT_ARCHIVE".into(),
         ]),
-        Err(e) => Err(vec![format!("`rt lib capi` could not be run: {e}")]),
+        Err(e) => Err(vec![format!("`rt lib` in crates/capi could not be run: {e}")]),
     }
 }
 
