@@ -1,5 +1,5 @@
 -- The places of a list of f64, by their bits.
-use Rattle.std.specs.Prelude.{ℕ, zero, suc, ◌+◌, ◌*◌, Bool, cond, not, ◌&&◌, List, [], ◌∷◌, ◌++◌, ◌==◌, from_bits, is_nan, to_bits, Float}
+use Rattle.std.specs.Prelude.{ℕ, zero, suc, ◌+◌, ◌*◌, Bool, cond, not, ◌&&◌, List, [], ◌∷◌, ◌++◌, eqb, from_bits, is_nan, to_bits, Float}
 use Rattle.std.specs.Float.{binary64}
 use Rattle.cases.specs.BigEndian.{big}
 
@@ -10,7 +10,7 @@ loaded (suc n) s = loaded n s ++ (from_bits binary64 (big s (8 * n) 8) ∷ [])
 
 -- x is a number, and has these bits
 unfoldable pub shown : Float → ℕ → Bool
-shown x bits = not (is_nan x) && to_bits binary64 x == bits
+shown x bits = not (is_nan x) && eqb (to_bits binary64 x) bits
 
 -- how many of xs, the places from k on, are not shown by the eight bytes of s that stand for their place
 unfoldable pub wrongFrom : ℕ → List Float → List ℕ → ℕ

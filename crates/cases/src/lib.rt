@@ -5,10 +5,8 @@
 
 mod big_endian;
 mod list;
-mod reading;
 mod record;
 
 pub use big_endian::{u32_at, u64_at};
 pub use list::{UNWRITTEN, check_sum, fill, is_shown, load, wrong_places};
-pub use reading::read_full;
 pub use record::{HEAD_SIZE, Head, head_of};

@@ -1,5 +1,5 @@
 -- What the private functions of src/square_root.rt promise each other. The contract of `root` names none of it.
-use Rattle.std.specs.Prelude.{◌≡◌, ℕ, ◌+◌, ◌-◌, ◌*◌, ◌/◌, ◌^◌, ◌<◌, ◌≤◌, false, cond, nat_le, Float}
+use Rattle.std.specs.Prelude.{◌≡◌, ℕ, ◌+◌, ◌-◌, ◌*◌, ◌/◌, ◌^◌, ◌<◌, ◌≤◌, false, cond, leb, Float}
 use Rattle.std.specs.Float.Ieee.Exact.{HasValue}
 use Rattle.leaves.specs.Root.{wholeRoot, rootOf}
 use Rattle.leaves.specs.declared.square_root.RootDigits.{RootDigits}
@@ -23,7 +23,7 @@ pub record Started (root places rest : ℕ) : Type 0 where
 
 -- 1 where the step can be taken off what is left, else 0
 abbrev pub digitOf : ℕ → ℕ → ℕ
-digitOf step left = cond (nat_le step left) 1 0
+digitOf step left = cond (leb step left) 1 0
 
 abbrev pub rootDigitsOf : ℕ → RootDigits
 rootDigitsOf n = record { root = wholeRoot n; rest = n - wholeRoot n * wholeRoot n }

@@ -5,7 +5,7 @@
 -- where the root is not whole. Every value of the format and every midpoint of two of them is a whole number of those
 -- units, so the root lies on the same side of each as that fraction.
 -- proofs/Roots.antt shows that the answer is the nearest, and the only nearest, value.
-use Rattle.std.specs.Prelude.{ℕ, zero, suc, ◌+◌, ◌*◌, ◌/◌, ◌^◌, true, false, cond, ◌==◌, nat_le, Float}
+use Rattle.std.specs.Prelude.{ℕ, zero, suc, ◌+◌, ◌*◌, ◌/◌, ◌^◌, true, false, cond, eqb, leb, Float}
 use Rattle.std.specs.Float.{nan, inf, fin, Format, binary64}
 use Rattle.std.specs.Float.Ieee.{low, up, down, size, round}
 
@@ -13,7 +13,7 @@ use Rattle.std.specs.Float.Ieee.{low, up, down, size, round}
 
 -- r is the root of n / 4; the root of n is 2 * r, or one more
 abbrev pub nextDigit : ℕ → ℕ → ℕ
-nextDigit n r = cond (nat_le ((2 * r + 1) * (2 * r + 1)) n) (2 * r + 1) (2 * r)
+nextDigit n r = cond (leb ((2 * r + 1) * (2 * r + 1)) n) (2 * r + 1) (2 * r)
 
 -- the root of an n below 4 ^ k
 unfoldable pub rootDigits : ℕ → ℕ → ℕ
@@ -27,7 +27,7 @@ wholeRoot n = rootDigits (size n) n
 -- 1 where the root of n is not whole
 unfoldable pub sticky : ℕ → ℕ
 unfolding wholeRoot
-sticky n = cond (wholeRoot n * wholeRoot n == n) 0 1
+sticky n = cond (eqb (wholeRoot n * wholeRoot n) n) 0 1
 
 -- ---- the root of a value
 

@@ -7,11 +7,12 @@
 // said on standard error, and the program ends with status 1.
 #![tactic(auto)]
 
+ghost use Rattle.std.specs.Io.{ReadsAtMost};
 ghost use Rattle.std.specs.Prelude.{◌≡◌, ℕ, ◌-◌, ◌<◌, ◌≤◌, length, get_or};
 ghost use Rattle.text.specs.Page.{IsPrefixLen};
 
 use answers::Answer;
-use cases::{HEAD_SIZE, Head, UNWRITTEN, read_full};
+use cases::{HEAD_SIZE, Head, UNWRITTEN};
 use std::fs;
 use std::io::{self, Read};
 use std::process::ExitCode;
@@ -109,6 +110,21 @@ fn print_pick(rt: &impl Print, name: &[u8], answer: Answer) -> io::Result<()> {
     print_name(rt, name)?;
     print_answer(rt, answer)?;
     rt.write_all(b"\n")
+}
+
+// Reads until the buffer is full or the file ends. Answers how many bytes it put at the buffer's start.
+fn read_full<R: Read>(file: &mut R, buffer: &mut [u8]) -> io::Result<usize>
+    ensures { ReadsAtMost result buffer.new }
+{
+    let mut n = 0;
+    while n < buffer.len() {
+        let more = file.read(&mut buffer[n..])?;
+        if more == 0 {
+            break;
+        }
+        n += more;
+    }
+    Ok(n)
 }
 
 // Reads the plate's sheet and images, makes its call and writes its line.

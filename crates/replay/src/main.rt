@@ -19,11 +19,12 @@
 // program with status 1.
 #![tactic(auto)]
 
+ghost use Rattle.std.specs.Io.{ReadsAtMost};
 ghost use Rattle.std.specs.Prelude.{◌≡◌, ◌&&◌, ◌≤◌};
 ghost use Rattle.replay.specs.Recorded.{recorded};
 
 use answers::{Answer, of_direction, of_middle, of_parameter, of_position};
-use cases::{HEAD_SIZE, Head, UNWRITTEN, is_shown, read_full, u32_at, u64_at};
+use cases::{HEAD_SIZE, Head, UNWRITTEN, is_shown, u32_at, u64_at};
 use std::fs;
 use std::io::{self, Read};
 use std::process::ExitCode;
@@ -199,6 +200,21 @@ fn judge(
             lend_front(call, sheet, phase, list, answer)
         }
     }
+}
+
+// Reads until the buffer is full or the file ends. Answers how many bytes it put at the buffer's start.
+fn read_full<R: Read>(file: &mut R, buffer: &mut [u8]) -> io::Result<usize>
+    ensures { ReadsAtMost result buffer.new }
+{
+    let mut n = 0;
+    while n < buffer.len() {
+        let more = file.read(&mut buffer[n..])?;
+        if more == 0 {
+            break;
+        }
+        n += more;
+    }
+    Ok(n)
 }
 
 // Reads the rest of a record, and makes its call.

@@ -1,4 +1,4 @@
--- `leaves::hypotenuse::key` is `key_of`, operation by operation.
+-- `leaves::hypotenuse::key` is `keyOf`, operation by operation.
 use Rattle.std.proofs.Common.{refl}
 use Rattle.leaves.specs.Hypot.{keyOf}
 use Rattle.leaves.proofs.hypotenuse.key.Goals as goal

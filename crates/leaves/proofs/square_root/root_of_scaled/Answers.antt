@@ -4,12 +4,6 @@ use native.Mathlib.Nat.{pow-succ'}
 use Rattle.leaves.proofs.PackedRoots.{at-fraction}
 use Rattle.leaves.proofs.square_root.root_of_scaled.Goals as goal
 
-even : (s e : ℕ) → e % 2 ≡ 0 → s * 2 ^ (2 * (e / 2)) ≡ s * 2 ^ e
-even s e h = ap (λ (k : ℕ). s * 2 ^ k) (whole e h)
-  where
-    whole : (e : ℕ) → e % 2 ≡ 0 → 2 * (e / 2) ≡ e
-    whole e h = omega arith
-
 odd : (s e : ℕ) → (e % 2 ≡ 0 → ⊥) → s * 2 * 2 ^ (2 * (e / 2)) ≡ s * 2 ^ e
 odd s e h = mul_assoc s 2 (2 ^ (2 * (e / 2))) ∙ ap (λ (z : ℕ). s * z) (sym (pow-succ' 2 (2 * (e / 2))) ∙ ap (λ (k : ℕ). 2 ^ k) (whole e h))
   where

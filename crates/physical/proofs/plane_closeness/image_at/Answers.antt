@@ -1,4 +1,4 @@
--- `physical::plane_closeness::image_at` is `image_of` the point at k: the phase's angle is taken from v, as when the
+-- `physical::plane_closeness::image_at` is `imageOf` the point at k: the phase's angle is taken from v, as when the
 -- point is written.
 use Rattle.points.proofs.Flat.{written-is}
 use Rattle.physical.specs.Stages.{imageOf}

@@ -1,6 +1,6 @@
 -- the buffer has as many bytes as were read, and the measure is the number of bytes that it still has room for
 use Rattle.std.proofs.Common.{◌-◌, ◌≤◌, length}
-use Rattle.cases.proofs.reading.read_full.Given as goal
+use Rattle.replay.proofs.read_full.Given as goal
 
 abbrev pub invariant-loop-n : goal.invariant-loop-n
 invariant-loop-n g l = l.n ≤ length l.buffer
