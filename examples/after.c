@@ -4,7 +4,7 @@
  * From the repository's root:
  *
  *     (cd crates/capi && rt lib)
- *     gcc -Iinclude examples/after.c crates/capi/out/libcapi.a -lm -o crates/capi/out/after
+ *     gcc -Iinclude examples/after.c crates/capi/out/libcapi.a -o crates/capi/out/after
  *     crates/capi/out/after
  */
 #include <inttypes.h>

@@ -4,7 +4,7 @@
  * hexadecimal, or a refusal's number. From the repository's root:
  *
  *     (cd crates/capi && rt lib)
- *     gcc -Iinclude examples/pick.c crates/capi/out/libcapi.a -lm -o crates/capi/out/pick
+ *     gcc -Iinclude examples/pick.c crates/capi/out/libcapi.a -o crates/capi/out/pick
  *     crates/capi/out/pick < samples/plate-b.sheet
  */
 #include <inttypes.h>

@@ -3,7 +3,7 @@
  * C convention.
  *
  * The archive is crates/capi/out/libcapi.a (`rt lib` in crates/capi), for x86-64
- * Linux; of the C library it calls fmod (-lm), memset and memcpy at most.
+ * Linux; of the C library it calls memset and memcpy at most.
  * It takes no memory from the heap, keeps nothing between calls and may be called
  * from several threads at once. Every call ends, and answers for every input; what
  * it answers is proved (crates/capi), if the host sees to two things that no call

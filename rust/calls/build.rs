@@ -129,7 +129,5 @@ fn link(archive: PathBuf) -> Result<(), Complaint> {
     println!("cargo::metadata=archive={}", archive.display());
     println!("cargo::rustc-link-search=native={}", folder.display());
     println!("cargo::rustc-link-lib=static={name}");
-    // The remainder of two f64 is the C library's fmod.
-    println!("cargo::rustc-link-lib=m");
     Ok(())
 }

@@ -29,6 +29,7 @@ pub mod RootOrder
 pub mod Wholes
 pub mod Hypotenuses
 pub mod Limits
+pub mod Remainders
 pub mod Wraps
 pub mod ConstantBits
 pub mod Examples

@@ -56,6 +56,14 @@ neg-units f s q k = go (ltb (q * 2 ^ k) (overflow f))
     go false = refl
 
 -- the other sign rounds to the same magnitude
+pub neg-neg : (x : Float) → neg (neg x) ≡ x
+unfolding neg
+neg-neg nan = refl
+neg-neg (inf true) = refl
+neg-neg (inf false) = refl
+neg-neg (fin true m e) = refl
+neg-neg (fin false m e) = refl
+
 pub neg-round : (f : Format) (s : Bool) (num den : ℕ) → round f (not s) num den ≡ neg (round f s num den)
 neg-round f s num den = round_is f (not s) num den ∙ neg-units f s _ _ ∙ ap neg (sym (round_is f s num den))
 

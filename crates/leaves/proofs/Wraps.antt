@@ -34,10 +34,10 @@ wrap-clear v =
 
 -- ---- the remainder by TAU
 
-abbrev tauValue : Float
+abbrev pub tauValue : Float
 tauValue = fin false 884279719003555 (negsuc 46)
 
-tau-is : tau ≡ tauValue
+pub tau-is : tau ≡ tauValue
 unfolding of_bits
 tau-is = refl
 

@@ -8,6 +8,7 @@ mod bounds;
 pub mod constants;
 mod hypotenuse;
 mod nearest;
+mod remainder;
 mod square_root;
 mod wrapping;
 

@@ -3,12 +3,13 @@ ghost use Rattle.std.specs.Prelude.{◌≡◌};
 ghost use Rattle.leaves.specs.Wrap.{remTau, wrapOf};
 
 use crate::constants::{PI, TAU};
+use crate::remainder::rest;
 
 // x rem TAU, where rem is %, plus TAU if negative: Rust's `rem_euclid` by TAU.
 pub fn rem_tau(x: f64) -> f64
     ensures { result ≡ remTau x }
 {
-    let rest = x % TAU;
+    let rest = rest(x);
     if rest < 0.0 { rest + TAU } else { rest }
 }
 

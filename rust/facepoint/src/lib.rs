@@ -67,7 +67,7 @@
 //! FACEPOINT_ARCHIVE (its whole path), else the repository's
 //! crates/capi/out/libcapi.a; where neither is there it has the archive built by `rt
 //! lib` in crates/capi, which wants the Rattle kit and some minutes. The archive is for
-//! x86-64 Linux; of the C library it calls `fmod`, `memset` and `memcpy` at most.
+//! x86-64 Linux; of the C library it calls `memset` and `memcpy` at most.
 
 #![deny(missing_docs, unsafe_code)]
 

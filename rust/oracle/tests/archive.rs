@@ -63,10 +63,10 @@ fn leaves_equal_the_hardware_on_random_arguments() {
     }
 }
 
-/// The three that header, README and rust/facepoint name. Which of memset and memcpy
+/// The two that header, README and rust/facepoint name. Which of memset and memcpy
 /// there is a call of is the compiler's choice.
 #[test]
-fn the_archive_calls_at_most_fmod_memset_and_memcpy() {
+fn the_archive_calls_at_most_memset_and_memcpy() {
     let nm = Command::new("nm").args(["-u", env!("ARCHIVE")]).output();
     let nm = nm.expect("nm, which comes with the linker");
     assert!(nm.status.success());
@@ -75,7 +75,7 @@ fn the_archive_calls_at_most_fmod_memset_and_memcpy() {
         .lines()
         .filter_map(|line| line.trim().strip_prefix("U "))
         .collect();
-    assert!(undefined.contains(&"fmod"), "{undefined:?}");
-    let is_named = |name: &&str| ["fmod", "memset", "memcpy"].contains(name);
+    assert!(undefined.contains(&"memset"), "{undefined:?}");
+    let is_named = |name: &&str| ["memset", "memcpy"].contains(name);
     assert!(undefined.iter().all(is_named), "{undefined:?}");
 }

@@ -5,16 +5,9 @@ use lib.Ieee.{Float, nan, inf, fin, binary64, up, down, lt, neg, fits, of_bits}
 use lib.Ieee.Fits.{neg-fits}
 use Rattle.leaves.specs.Constants.{plusZero}
 use Rattle.leaves.specs.Round.{roundOf}
+use Rattle.leaves.proofs.Signs.{neg-neg}
 use Rattle.leaves.proofs.Wholes.{round-large, round-neg, round-zero}
 use Rattle.leaves.proofs.nearest.round.Goals as goal
-
-neg-neg : (x : Float) → neg (neg x) ≡ x
-unfolding neg
-neg-neg nan = refl
-neg-neg (inf true) = refl
-neg-neg (inf false) = refl
-neg-neg (fin true m e) = refl
-neg-neg (fin false m e) = refl
 
 turned : (x : Float) → neg (roundOf (neg x)) ≡ roundOf x
 unfolding roundOf

@@ -4,8 +4,8 @@ use Rattle.leaves.proofs.wrapping.rem_tau.Goals as goal
 
 pub returns-then-rest : goal.returns-then-rest
 unfolding remTau lifted
-returns-then-rest c = rw c.if-rest.true
+returns-then-rest c = rw (← c.rest-rest.ensures, c.if-rest.true)
 
 pub returns-else-rest : goal.returns-else-rest
 unfolding remTau lifted
-returns-else-rest c = rw c.if-rest.false
+returns-else-rest c = rw (← c.rest-rest.ensures, c.if-rest.false)
