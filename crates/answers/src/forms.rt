@@ -1,7 +1,7 @@
 // The answers of the calls after the picker as an answer of the picker's form, whose five numbers begin
-// with the values answered; a yes is 1, a no 0.
+// with the values answered; a yes is 1, a no 0. A refusal stays one.
 ghost use Rattle.std.specs.Prelude.{◌≡◌};
-ghost use Rattle.answers.specs.Answers.{paper, yes as yes_of, parameterPaper, directionPaper, positionPaper, middlePaper};
+ghost use Rattle.answers.specs.Answers.{paper, isPoint, yes as yes_of, parameterPaper, isParameter, directionPaper, isDirection, positionPaper, isPosition, middlePaper, isMiddle};
 
 use crate::outcomes::{Answer, DirectionAnswer, MiddleAnswer, ParameterAnswer, PositionAnswer};
 
@@ -12,7 +12,7 @@ fn yes(b: bool) -> f64
 }
 
 pub fn of_parameter(answer: ParameterAnswer) -> Answer
-    ensures { paper result ≡ parameterPaper answer }
+    ensures { (paper result ≡ parameterPaper answer) × (isPoint result ≡ isParameter answer) }
 {
     match answer {
         ParameterAnswer::Parameter(t) => Answer::Point(t, 0.0, 0.0, 0.0, 0),
@@ -21,7 +21,7 @@ pub fn of_parameter(answer: ParameterAnswer) -> Answer
 }
 
 pub fn of_direction(answer: DirectionAnswer) -> Answer
-    ensures { paper result ≡ directionPaper answer }
+    ensures { (paper result ≡ directionPaper answer) × (isPoint result ≡ isDirection answer) }
 {
     match answer {
         DirectionAnswer::Direction(reverse, keep) => {
@@ -32,7 +32,7 @@ pub fn of_direction(answer: DirectionAnswer) -> Answer
 }
 
 pub fn of_position(answer: PositionAnswer) -> Answer
-    ensures { paper result ≡ positionPaper answer }
+    ensures { (paper result ≡ positionPaper answer) × (isPoint result ≡ isPosition answer) }
 {
     match answer {
         PositionAnswer::Position(x, y, z) => Answer::Point(x, y, z, 0.0, 0),
@@ -41,7 +41,7 @@ pub fn of_position(answer: PositionAnswer) -> Answer
 }
 
 pub fn of_middle(answer: MiddleAnswer) -> Answer
-    ensures { paper result ≡ middlePaper answer }
+    ensures { (paper result ≡ middlePaper answer) × (isPoint result ≡ isMiddle answer) }
 {
     match answer {
         MiddleAnswer::Middle(angle, height) => Answer::Point(angle, height, 0.0, 0.0, 0),

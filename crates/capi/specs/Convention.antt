@@ -1,5 +1,5 @@
--- Document 01, "The host calls over the C convention, on numbers and slices". What a call returns is `returnedOf` of the
--- answers; the chart has a lent list beside it.
+-- Document 01, "The host calls over the C convention, on numbers and slices". What a call returns is `returnedOf` of
+-- the answers; the chart has a lent list beside it.
 use Rattle.std.specs.Prelude.{cond, List, ℕ, eqb, length, Float}
 use Rattle.answers.specs.Returned.{Returned, returnedOf}
 use Rattle.chart.specs.Chart.{Charted, chartOf}

@@ -42,14 +42,14 @@ module _ (fits : Bool) (s : Sheet) (phase : ℕ) where
 
   -- the seam refuses
   pub found-refused : (n : ℕ) → n ≡ first (seamChecks fits s phase) → (n ≡ 0 → ⊥) → Refused n ≡ foundOf fits s phase
-  unfolding findChecks
+  unfolding findChecks frameChecks seamChecks
   found-refused n e h =
       refused-is n h
       ∙ found-by n (first-refused (seamChecks fits s phase) (check 14 (noneClear (chosen s phase)) ∷ []) (λ z. h (e ∙ z)) ∙ sym e)
 
   module _ (passes : first (seamChecks fits s phase) ≡ 0) where
     left : first (findChecks fits s phase) ≡ first (check 14 (noneClear (chosen s phase)) ∷ [])
-    unfolding findChecks
+    unfolding findChecks frameChecks seamChecks
     left = first-passed (seamChecks fits s phase) (check 14 (noneClear (chosen s phase)) ∷ []) seam-numbered passes
 
     -- no grid point is clear
@@ -64,8 +64,8 @@ module _ (fits : Bool) (s : Sheet) (phase : ℕ) where
   -- ---- what a caller reads in it, whose lists are of the sheet's size
 
   checks-left : fits ≡ true → first (findChecks fits s phase) ≡ first (frameChecks s phase)
-  unfolding findChecks frameChecks seamChecks
-  checks-left e = first-later (check 9 (not fits)) (joinChecks s phase ++ check 14 (noneClear (chosen s phase)) ∷ []) (rw e)
+  unfolding findChecks
+  checks-left e = first-later (check 9 (not fits)) (frameChecks s phase) (rw e)
 
   chosen-told : (n : ℕ) (f : Frame) (c : Candidate) → settledFound n (frame s phase) (chosen s phase) ≡ Chosen f c → (n ≡ 0) × (f ≡ frame s phase) × (c ≡ chosen s phase)
   unfolding settledFound

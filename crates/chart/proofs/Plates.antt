@@ -3,7 +3,7 @@
 -- Plate A's are rows of the chart's table, on the sheet's bytes: the rows down to 13 are computed with room for just
 -- the points, and more room changes none.
 use mathlib.Core.Path.{◌≡◌, refl, sym, ap, ◌∙◌}
-use mathlib.Core.Bool.{Bool, false}
+use mathlib.Core.Bool.{Bool, false, xor}
 use mathlib.Core.List.{List, ◌∷◌, ◌++◌}
 use Prim.Native.Nat.{ℕ, ◌≤◌}
 use native.Mathlib.Omega.{arith}
@@ -65,7 +65,7 @@ module _ (last : Point) where
   more-room room h = ap (λ (cs : List Check). first (downTo 13 cs)) (same-rows bytesA 0 136 room (room-right room h ∙ sym (room-right 136 (omega arith))))
 
 pub plates : Plates
-unfolding insideOf windingOf joinsOpen square halfway decimal of_bits sheetOf sheetBytes plateA smallerOf largerOf hypotOf roundOf wrapOf joinLimit
+unfolding xor insideOf windingOf joinsOpen square halfway decimal of_bits sheetOf sheetBytes plateA smallerOf largerOf hypotOf roundOf wrapOf joinLimit
 plates = record {
   round-up = round-two-and-a-half;
   round-down = round-minus-two-and-a-half;

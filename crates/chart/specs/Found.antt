@@ -1,19 +1,18 @@
 -- The grid point of a sheet, as the chart and the picks come by it, in lists that the caller lends: the rows 11 to 14
 -- behind 9 of these lists (the seam's), and the frame with the chosen grid point.
-use Rattle.std.specs.Prelude.{Bool, cond, List, [], ◌∷◌, ◌++◌, ℕ, eqb}
+use Rattle.std.specs.Prelude.{Bool, not, cond, List, ◌∷◌, ℕ, eqb}
 use Rattle.answers.specs.Outcome.{Check, check, first}
 use Rattle.sheet.specs.Content.{Sheet}
 use Rattle.frame.specs.Framing.{frame}
-use Rattle.frame.specs.Seam.{seamChecks}
 use Rattle.frame.specs.declared.framing.Frame.{Frame}
 use Rattle.search.specs.declared.candidate.Candidate.{Candidate}
-use Rattle.chart.specs.Chart.{chosen, noneClear}
+use Rattle.chart.specs.Chart.{chosen, frameChecks}
 use Rattle.chart.specs.declared.grid_point.Found.{Found}
 use Rattle.chart.specs.declared.grid_point.Found.TheVariants.{Chosen, Refused}
 
 unfoldable pub findChecks : Bool → Sheet → ℕ → List Check
-unfolding noneClear
-findChecks fits s phase = seamChecks fits s phase ++ check 14 (noneClear (chosen s phase)) ∷ []
+unfolding frameChecks
+findChecks fits s phase = check 9 (not fits) ∷ frameChecks s phase
 
 -- the frame and the grid point where no check fails, else the first that does
 unfoldable pub settledFound : ℕ → Frame → Candidate → Found

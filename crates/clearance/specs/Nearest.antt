@@ -1,5 +1,5 @@
 -- A second form of rule 8, which the code works by: the key of the distance to one segment, and the least over a list
--- of them. Keys order as distances do, so one root is taken for many segments. The law `chosen_is`
+-- of them. Keys order as distances do, so one root is taken for many segments. The law `chosen-is`
 -- (crates/chart/proofs/Choosing.antt) joins it to the first form, which is Clearance.
 use Rattle.std.specs.Prelude.{Bool, true, ◌&&◌, ◌≡◌, ℕ, ◌/◌, ◌<◌, ltb, Float, length}
 use mathlib.Core.List.{List, foldl}

@@ -1,6 +1,6 @@
 -- A second form of rule 8, which the code works by: the segments of rings in one list of numbers, four a segment, u and
 -- v of its start, u and v of its end. On a periodic chart the list has `laid` segments, and what is left of rule 8's
--- copy, `shiftedTo`, is the same for all points of a column. The law `chosen_is` (crates/chart/proofs/Choosing.antt)
+-- copy, `shiftedTo`, is the same for all points of a column. The law `chosen-is` (crates/chart/proofs/Choosing.antt)
 -- joins it to the first form, which is Clearance.
 use Rattle.std.specs.Prelude.{Bool, true, false, ℕ, ◌+◌, ◌*◌, Float, get_or}
 use mathlib.Core.List.{List, [], ◌∷◌, map, flat_map}

@@ -1,7 +1,7 @@
 -- Document 01, "Chart", rule 7, on the rings of the normalised chart: the winding of a ring, the crossings of all
 -- rings, and what they cover. `inside` has its own file (crates/inside/specs/Inside.antt).
 use Rattle.std.specs.Prelude.{Bool, true, false, not, cond, ◌&&◌, ◌||◌, ℕ, ◌%◌, eqb, ltb, ℤ, pos, negsuc, nat_abs, ◌+ℤ◌, Float}
-use Rattle.std.proofs.Math.Bool.{xor}
+use Rattle.std.specs.Bool.{xor}
 use mathlib.Core.List.{List, foldl}
 use Rattle.std.specs.Float.{binary64}
 use Rattle.std.specs.Float.Ieee.{add, sub, mul, div, lt}
@@ -17,7 +17,7 @@ use Rattle.frame.specs.declared.framing.Frame.{Frame}
 
 -- a crossing at a.u, a.v, b.u, b.v and w
 unfoldable pub step : Float → Float → Float → Float → Float → Float → ℤ
-unfolding xor lt add sub mul div
+unfolding lt add sub mul div
 step pv au av bu bv w =
     cond (xor (lt w au) (lt w bu) && lt (add binary64 av (div binary64 (mul binary64 (sub binary64 bv av) (sub binary64 w au)) (sub binary64 bu au))) pv)
     (cond (lt au bu) (pos 1) (negsuc 0))

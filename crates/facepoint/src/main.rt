@@ -4,9 +4,9 @@
 // said on standard error, and the program then ends with status 1.
 #![tactic(auto)]
 
-ghost use Rattle.std.specs.Prelude.{◌≡◌, length, take};
+ghost use Rattle.std.specs.Prelude.{◌≡◌, eqb, length, take};
 ghost use Rattle.text.specs.Page.{IsPrefixLen};
-ghost use Rattle.answers.specs.Answers.{paper};
+ghost use Rattle.answers.specs.Answers.{paper, isPoint};
 ghost use Rattle.facepoint.specs.Answer.{answerTo};
 ghost use Rattle.facepoint.specs.Line.{lineOf};
 ghost use Rattle.facepoint.specs.Read.{Within};
@@ -48,7 +48,7 @@ fn read_input<R: Read>(reader: &mut R, buffer: &mut [u8]) -> Input
 
 // The plane pick of the input, or 1 where it is too long.
 fn answer_to(input: &[u8]) -> Answer
-    ensures { paper result ≡ answerTo input.now }
+    ensures { (paper result ≡ answerTo input.now) × (isPoint result ≡ eqb (paper result).status 0) }
 {
     if MOST_BYTES < input.len() {
         return Answer::Refused(1);

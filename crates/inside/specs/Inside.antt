@@ -1,6 +1,6 @@
 -- Document 01, "Chart", rule 7, where the chart is not periodic: `inside`, of one ring of the normalised chart.
 use Rattle.std.specs.Prelude.{Bool, false, ◌&&◌, List, [], ◌∷◌}
-use Rattle.std.proofs.Math.Bool.{xor}
+use Rattle.std.specs.Bool.{xor}
 use Rattle.std.specs.Float.{binary64}
 use Rattle.std.specs.Float.Ieee.{add, sub, mul, div, lt}
 use Rattle.sheet.specs.Content.{Point}
@@ -10,13 +10,13 @@ use Rattle.points.specs.Bounds.{lastOf}
 -- just one of a.v > p.v, b.v > p.v holds and p.u < (b.u − a.u)×(p.v − a.v)/(b.v − a.v) + a.u"
 
 unfoldable pub flips : Point → Point → Point → Bool
-unfolding xor lt add sub mul div
+unfolding lt add sub mul div
 flips p a b =
     xor (lt p.v a.v) (lt p.v b.v)
     && lt p.u (add binary64 (div binary64 (mul binary64 (sub binary64 b.u a.u) (sub binary64 p.v a.v)) (sub binary64 b.v a.v)) a.u)
 
 unfoldable pub insideFrom : Point → Bool → Point → List Point → Bool
-unfolding xor flips
+unfolding flips
 insideFrom p so_far b [] = so_far
 insideFrom p so_far b (a ∷ rest) = insideFrom p (xor so_far (flips p a b)) a rest
 

@@ -10,7 +10,7 @@ use Prim.Native.Nat.{ℕ, suc, ◌+◌, ◌-◌, ◌≤◌, ◌<◌}
 use native.Mathlib.Numerals.{add-one}
 use native.Mathlib.Omega.{arith}
 use lib.Dec.{T, T_not}
-use lib.Ieee.{Float, nan, binary64, of_bits, is_nan, fits, lt, eq, le, div}
+use lib.Ieee.{Float, nan, binary64, of_bits, fits, lt, eq, le, div}
 use lib.Ieee.Fits.{div-fits}
 use lib.Ieee.Scale.{finite}
 use lib.ListN.{length, get_or, take, drop, set, drop_of_length-le, get_or-append}
@@ -25,7 +25,9 @@ use Rattle.answers.specs.Limits.{beyond, argumentLimit}
 use Rattle.answers.specs.Lists.{anyOf}
 use Rattle.answers.proofs.AnyOf.{neither, any-false}
 use Rattle.answers.proofs.Finite.{not-beyond-finite}
+use Rattle.std.specs.List.{AllByRecursion}
 use Rattle.round_fallback.specs.Cylinder.{precedes, insertOf, sortedOf, isNear, keptAfter, keptOf, cornerAngles, roundWrong}
+use Rattle.round_fallback.specs.Sorted.{Numeric, Ordered}
 
 -- ---- the place, searched from the front
 
@@ -164,14 +166,22 @@ precedes-asym x y t =
 
 -- ---- all in order
 
--- a value of the format that is no NaN
-abbrev pub Numeric : Float → Type 0
-Numeric x = T (fits binary64 x) × T (not (is_nan x))
+-- `Ordered` and what holds of each number, in the word `All` of the leaves' laws
+abbrev InOrder : List Float → Type 0
+InOrder [] = Unit {0}
+InOrder (x ∷ xs) = All (λ (y : Float). precedes y x ≡ false) xs × InOrder xs
 
--- none precedes any of those before it: of each number, none of those after it precedes it
-abbrev pub Ordered : List Float → Type 0
-Ordered [] = Unit {0}
-Ordered (x ∷ xs) = All (λ (y : Float). precedes y x ≡ false) xs × Ordered xs
+each : (Q : Float → Type 0) (xs : List Float) → All Q xs → AllByRecursion Q xs
+each Q [] h = tt
+each Q (x ∷ xs) h = (h.0, each Q xs h.1)
+
+all : (Q : Float → Type 0) (xs : List Float) → AllByRecursion Q xs → All Q xs
+all Q [] h = tt
+all Q (x ∷ xs) h = (h.0, all Q xs h.1)
+
+ordered : (xs : List Float) → InOrder xs → Ordered xs
+ordered [] h = tt
+ordered (x ∷ xs) h = (each (λ (y : Float). precedes y x ≡ false) xs h.0, ordered xs h.1)
 
 -- neither less (l), nor level (e) and less by the sign (d)
 parts : (l e d : Bool) → (l || (e && d)) ≡ false → T (not l) × (T e → T (not d))
@@ -209,7 +219,7 @@ precedes-not-trans x y z hx hy hz p q =
 insert-all : (Q : Float → Type 0) (x : Float) (ys : List Float) → Q x → All Q ys → All Q (insertOf x ys)
 insert-all Q x ys p h = all-perm Q (Permᴰ.symm (insert-perm x ys)) (p, h)
 
-insert-ordered : (x : Float) (ys : List Float) → Numeric x → All Numeric ys → Ordered ys → Ordered (insertOf x ys)
+insert-ordered : (x : Float) (ys : List Float) → Numeric x → All Numeric ys → InOrder ys → InOrder (insertOf x ys)
 unfolding insertOf
 insert-ordered x [] n ns h = (tt, tt)
 insert-ordered x (y ∷ ys) n ns h = by (precedes x y) refl (insert-ordered x ys n ns.1 h.1)
@@ -219,16 +229,19 @@ insert-ordered x (y ∷ ys) n ns h = by (precedes x y) refl (insert-ordered x ys
     past e [] ms k = tt
     past e (z ∷ zs) ms k = (precedes-not-trans x y z n ns.0 ms.0 e k.0, past e zs ms.1 k.1)
 
-    by : (b : Bool) → precedes x y ≡ b → Ordered (insertOf x ys) → Ordered (cond b (x ∷ y ∷ ys) (y ∷ insertOf x ys))
+    by : (b : Bool) → precedes x y ≡ b → InOrder (insertOf x ys) → InOrder (cond b (x ∷ y ∷ ys) (y ∷ insertOf x ys))
     by true e k = let f = precedes-asym x y e in ((f, past f ys ns.1 h.0), h)
     by false e k = (insert-all (λ (z : Float). precedes z y ≡ false) x ys e h.0, k)
 
-pub sorted-ordered : (xs : List Float) → All Numeric xs → Ordered (sortedOf xs)
+sorted-in-order : (xs : List Float) → All Numeric xs → InOrder (sortedOf xs)
 unfolding sortedOf
-sorted-ordered xs h =
-    (fold-keeps (λ (zs : List Float) (x : Float). insertOf x zs) (λ (zs : List Float). All Numeric zs × Ordered zs) Numeric
+sorted-in-order xs h =
+    (fold-keeps (λ (zs : List Float) (x : Float). insertOf x zs) (λ (zs : List Float). All Numeric zs × InOrder zs) Numeric
     (λ zs x p n. (insert-all Numeric x zs n p.0, insert-ordered x zs n p.0 p.1))
     xs h [] (tt, tt)).1
+
+pub sorted-ordered : (xs : List Float) → AllByRecursion Numeric xs → Ordered (sortedOf xs)
+sorted-ordered xs h = ordered (sortedOf xs) (sorted-in-order xs (all Numeric xs h))
 
 -- ---- the corner angles of a call
 
@@ -249,26 +262,29 @@ kept-all Q last (x ∷ xs) h = by (isNear x last) (kept-all Q last xs h.1) (h.0,
     by true p q = p
     by false p q = q
 
-kept-ordered : (last : Float) (xs : List Float) → Ordered xs → Ordered (keptAfter last xs)
+kept-ordered : (last : Float) (xs : List Float) → InOrder xs → InOrder (keptAfter last xs)
 unfolding keptAfter
 kept-ordered last [] h = tt
 kept-ordered last (x ∷ xs) h = by (isNear x last) (kept-ordered last xs h.1) (kept-all (λ (y : Float). precedes y x ≡ false) x xs h.0, kept-ordered x xs h.1)
   where
-    by : (b : Bool) → Ordered (keptAfter last xs) → Ordered (x ∷ keptAfter x xs) → Ordered (cond b (keptAfter last xs) (x ∷ keptAfter x xs))
+    by : (b : Bool) → InOrder (keptAfter last xs) → InOrder (x ∷ keptAfter x xs) → InOrder (cond b (keptAfter last xs) (x ∷ keptAfter x xs))
     by true p q = p
     by false p q = q
 
-kept-of-ordered : (xs : List Float) → Ordered xs → Ordered (keptOf xs)
+kept-of-ordered : (xs : List Float) → InOrder xs → InOrder (keptOf xs)
 unfolding keptOf
 kept-of-ordered [] h = tt
 kept-of-ordered (x ∷ xs) h = (kept-all (λ (y : Float). precedes y x ≡ false) x xs h.0, kept-ordered x xs h.1)
 
 module _ (heights angles : List Float) (passed : roundWrong heights angles ≡ false) where
   -- where 16 does not hold
-  pub turned-numeric : All Numeric (map remTau angles)
+  pub turned-numeric : AllByRecursion Numeric (map remTau angles)
   unfolding roundWrong
-  turned-numeric = turned angles (any-false (beyond argumentLimit) angles (neither (anyOf (beyond argumentLimit) heights) (anyOf (beyond argumentLimit) angles) passed).1)
+  turned-numeric =
+      each Numeric (map remTau angles) (turned angles (any-false (beyond argumentLimit) angles (neither (anyOf (beyond argumentLimit) heights) (anyOf (beyond argumentLimit) angles) passed).1))
 
   pub corners-ordered : Ordered (cornerAngles angles)
   unfolding cornerAngles
-  corners-ordered = kept-of-ordered (sortedOf (map remTau angles)) (sorted-ordered (map remTau angles) turned-numeric)
+  corners-ordered =
+      let corners = sorted-in-order (map remTau angles) (all Numeric (map remTau angles) turned-numeric) in
+      ordered (keptOf (sortedOf (map remTau angles))) (kept-of-ordered (sortedOf (map remTau angles)) corners)

@@ -1,1 +1,2 @@
 pub mod Cylinder
+pub mod Sorted

@@ -1,5 +1,5 @@
 -- A second form of rules 6, 8 and 9, which the code works by: on segments in one list, by keys, and on a list that
--- tells which grid points are covered, in the grid's order. The law `chosen_is` (crates/chart/proofs/Choosing.antt)
+-- tells which grid points are covered, in the grid's order. The law `chosen-is` (crates/chart/proofs/Choosing.antt)
 -- joins it to the first form, `candidate` of crates/chart/specs/Chart.antt.
 use Rattle.std.specs.Prelude.{Bool, false, List, ℕ, ◌+◌, ◌-◌, ◌*◌, Float, get_or}
 use Rattle.std.specs.Float.{inf}

@@ -1,7 +1,8 @@
 //! Document 01 as a program: over the bytes of a sheet reader, chart, image pick
 //! and plane pick with their refusal numbers, clearance and count, and over numbers
-//! and lists the calls after the picker. Written from the document, in its order, apart from the original; where the two
-//! texts differ the Rust prevails. Plain and slow on purpose.
+//! and lists the calls after the picker. Written from the document, in its order, apart
+//! from the original; where the two texts differ the Rust prevails. Plain and slow on
+//! purpose.
 
 mod after;
 mod chart;
