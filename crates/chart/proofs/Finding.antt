@@ -1,7 +1,7 @@
 -- The grid point of a sheet by the seam: what the seam refuses is refused so, and behind it row 14 tells whether the
 -- chosen grid point is clear; and what a caller reads in the answer.
 use mathlib.Core.Bool.{Bool, true, false, not, cond}
-use mathlib.Core.List.{[], ◌∷◌, ◌++◌}
+use mathlib.Core.List.{[], ◌∷◌}
 use mathlib.Core.Path.{◌≡◌, refl, sym, ap, ◌∙◌}
 use Prim.Native.Nat.{ℕ}
 use native.Mathlib.Omega.{arith}
