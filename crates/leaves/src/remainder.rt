@@ -7,8 +7,7 @@ ghost use Rattle.std.specs.Float.Ieee.{lt, le, rem};
 ghost use Rattle.leaves.specs.Constants.{plusZero, tau};
 
 use crate::constants::TAU;
-
-const HIDDEN: u64 = 0x10_0000_0000_0000; // 2^52, the weight of a normal number's leading digit
+use crate::square_root::HIDDEN;
 
 const TAU_PARTS: u64 = 7074237752028440; // TAU in 2^-50ths
 

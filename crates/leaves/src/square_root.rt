@@ -13,7 +13,7 @@ ghost use Rattle.leaves.specs.Constants.{plusZero};
 ghost use Rattle.leaves.specs.Engine.{RootOfFraction, rootDigitsOf, radicand, digitOf, Started};
 ghost use Rattle.leaves.specs.Root.{rootOf};
 
-const HIDDEN: u64 = 0x10_0000_0000_0000; // 2^52, the weight of a normal number's leading digit
+pub(crate) const HIDDEN: u64 = 0x10_0000_0000_0000; // 2^52, the weight of a normal number's leading digit
 
 // The digits of an integer root, and the rest: what is left of the radicand.
 #[derive(Clone, Copy)]
