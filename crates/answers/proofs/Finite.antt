@@ -7,20 +7,20 @@ use lib.Ieee.{Float, neg, le}
 use lib.Ieee.Fits.{and_l, and_r}
 use lib.Ieee.Scale.{finite}
 use borrow.Author.Tests.{not-false}
-use Rattle.leaves.proofs.Magnitudes.{Most, within-most}
-use Rattle.leaves.proofs.Order.{within-finite}
+use Rattle.leaves.proofs.Magnitudes.{Most, within_most}
+use Rattle.leaves.proofs.Order.{within_finite}
 use Rattle.answers.specs.Limits.{beyond}
 
-not-beyond : (limit x : Float) → beyond limit x ≡ false → T (le (neg limit) x) × T (le x limit)
+not_beyond : (limit x : Float) → beyond limit x ≡ false → T (le (neg limit) x) × T (le x limit)
 unfolding beyond
-not-beyond limit x e =
+not_beyond limit x e =
     let above = le (neg limit) x in
     let below = le x limit in
     let both : T (above && below) = subst T (sym (not-false (above && below) e)) tt in
     (and_l above below both, and_r above below both)
 
-pub not-beyond-finite : (limit x : Float) → T (finite limit) → beyond limit x ≡ false → T (finite x)
-not-beyond-finite limit x h e = within-finite limit x h (not-beyond limit x e).0 (not-beyond limit x e).1
+pub not_beyond_finite : (limit x : Float) → T (finite limit) → beyond limit x ≡ false → T (finite x)
+not_beyond_finite limit x h e = within_finite limit x h (not_beyond limit x e).0 (not_beyond limit x e).1
 
-pub not-beyond-most : (n : ℕ) (limit x : Float) → Most n limit → beyond limit x ≡ false → Most n x
-not-beyond-most n limit x h e = within-most n limit x h (not-beyond limit x e).0 (not-beyond limit x e).1
+pub not_beyond_most : (n : ℕ) (limit x : Float) → Most n limit → beyond limit x ≡ false → Most n x
+not_beyond_most n limit x h e = within_most n limit x h (not_beyond limit x e).0 (not_beyond limit x e).1

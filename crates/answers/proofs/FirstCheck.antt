@@ -21,45 +21,45 @@ Lacks n cs = All (λ (c : Check). eqb c.number n ≡ false) cs
 abbrev pub NoneFails : List Check → Type 0
 NoneFails cs = All (λ (c : Check). c.fails ≡ false) cs
 
-no-number : (b : Bool) (m r : ℕ) → 0 < m → cond b m r ≡ 0 → (b ≡ false) × (r ≡ 0)
-no-number false m r h e = (refl, e)
-no-number true m r h e = absurd (omega arith)
+no_number : (b : Bool) (m r : ℕ) → 0 < m → cond b m r ≡ 0 → (b ≡ false) × (r ≡ 0)
+no_number false m r h e = (refl, e)
+no_number true m r h e = absurd (omega arith)
 
-pub none-fails : (cs : List Check) → Numbered cs → first cs ≡ 0 → NoneFails cs
+pub none_fails : (cs : List Check) → Numbered cs → first cs ≡ 0 → NoneFails cs
 unfolding first
-none-fails [] n e = tt
-none-fails (c ∷ cs) n e =
-    let p = no-number c.fails c.number (first cs) n.0 e in
-    (p.0, none-fails cs n.1 p.1)
+none_fails [] n e = tt
+none_fails (c ∷ cs) n e =
+    let p = no_number c.fails c.number (first cs) n.0 e in
+    (p.0, none_fails cs n.1 p.1)
 
-pub first-none : (cs : List Check) → NoneFails cs → first cs ≡ 0
+pub first_none : (cs : List Check) → NoneFails cs → first cs ≡ 0
 unfolding first
-first-none [] h = refl
-first-none (c ∷ cs) h = rw h.0 (first-none cs h.1)
+first_none [] h = refl
+first_none (c ∷ cs) h = rw h.0 (first_none cs h.1)
 
-pub first-here : (c : Check) (cs : List Check) → c.fails ≡ true → first (c ∷ cs) ≡ c.number
+pub first_here : (c : Check) (cs : List Check) → c.fails ≡ true → first (c ∷ cs) ≡ c.number
 unfolding first
-first-here c cs e = rw e
+first_here c cs e = rw e
 
-pub first-later : (c : Check) (cs : List Check) → c.fails ≡ false → first (c ∷ cs) ≡ first cs
+pub first_later : (c : Check) (cs : List Check) → c.fails ≡ false → first (c ∷ cs) ≡ first cs
 unfolding first
-first-later c cs e = rw e
+first_later c cs e = rw e
 
 -- what holds of 0 and of every row's number holds of the first that fails
-pub first-holds : (P : ℕ → Type 0) → P 0 → (cs : List Check) → All (λ (c : Check). P c.number) cs → P (first cs)
+pub first_holds : (P : ℕ → Type 0) → P 0 → (cs : List Check) → All (λ (c : Check). P c.number) cs → P (first cs)
 unfolding first
-first-holds P none [] h = none
-first-holds P none (c ∷ cs) h = by c.fails (first-holds P none cs h.1)
+first_holds P none [] h = none
+first_holds P none (c ∷ cs) h = by c.fails (first_holds P none cs h.1)
   where
     by : (b : Bool) → P (first cs) → P (cond b c.number (first cs))
     by true k = h.0
     by false k = k
 
 -- a number that no check has is not the first's
-pub lacks-first : (n : ℕ) (cs : List Check) → 0 < n → Lacks n cs → first cs ≡ n → ⊥
+pub lacks_first : (n : ℕ) (cs : List Check) → 0 < n → Lacks n cs → first cs ≡ n → ⊥
 unfolding first
-lacks-first n [] some h e = omega arith
-lacks-first n (c ∷ cs) some h e = by c.fails (lacks-first n cs some h.1) e
+lacks_first n [] some h e = omega arith
+lacks_first n (c ∷ cs) some h e = by c.fails (lacks_first n cs some h.1) e
   where
     by : (b : Bool) → (first cs ≡ n → ⊥) → cond b c.number (first cs) ≡ n → ⊥
     by true k e = true≢false (sym (eq-eqb c.number n e) ∙ h.0)
@@ -71,42 +71,42 @@ abbrev pub amongst : ℕ → List ℕ → Bool
 amongst n [] = false
 amongst n (m ∷ ms) = eqb n m || amongst n ms
 
-one-of : (ns : List ℕ) (n : ℕ) → T (amongst n ns) → OneOf ns n
-one-of [] n t = absurd t
-one-of (m ∷ ms) n t = by (eqb n m) refl (one-of ms n) t
+one_of_lem : (ns : List ℕ) (n : ℕ) → T (amongst n ns) → OneOf ns n
+one_of_lem [] n t = absurd t
+one_of_lem (m ∷ ms) n t = by (eqb n m) refl (one_of_lem ms n) t
   where
     by : (b : Bool) → eqb n m ≡ b → (T (amongst n ms) → OneOf ms n) → T (b || amongst n ms) → OneOf (m ∷ ms) n
     by true e later t = inl (eqb-true n m e)
     by false e later t = inr (later t)
 
 -- the first that fails is one of these, where 0 and every row's number are
-pub first-one-of : (ns : List ℕ) (cs : List Check) → T (amongst 0 ns) → All (λ (c : Check). T (amongst c.number ns)) cs → OneOf ns (first cs)
-first-one-of ns cs none h = one-of ns (first cs) (first-holds (λ (n : ℕ). T (amongst n ns)) none cs h)
+pub first_one_of : (ns : List ℕ) (cs : List Check) → T (amongst 0 ns) → All (λ (c : Check). T (amongst c.number ns)) cs → OneOf ns (first cs)
+first_one_of ns cs none h = one_of_lem ns (first cs) (first_holds (λ (n : ℕ). T (amongst n ns)) none cs h)
 
 -- ---- two tables, one behind the other
 
 -- the checks of xs come first
-after-none : (xs ys : List Check) → NoneFails xs → first (xs ++ ys) ≡ first ys
+after_none : (xs ys : List Check) → NoneFails xs → first (xs ++ ys) ≡ first ys
 unfolding first
-after-none [] ys h = refl
-after-none (c ∷ cs) ys h = rw h.0 (after-none cs ys h.1)
+after_none [] ys h = refl
+after_none (c ∷ cs) ys h = rw h.0 (after_none cs ys h.1)
 
-pub first-passed : (xs ys : List Check) → Numbered xs → first xs ≡ 0 → first (xs ++ ys) ≡ first ys
-first-passed xs ys n e = after-none xs ys (none-fails xs n e)
+pub first_passed : (xs ys : List Check) → Numbered xs → first xs ≡ 0 → first (xs ++ ys) ≡ first ys
+first_passed xs ys n e = after_none xs ys (none_fails xs n e)
 
-pub first-refused : (xs ys : List Check) → (first xs ≡ 0 → ⊥) → first (xs ++ ys) ≡ first xs
+pub first_refused : (xs ys : List Check) → (first xs ≡ 0 → ⊥) → first (xs ++ ys) ≡ first xs
 unfolding first
-first-refused [] ys h = absurd (h refl)
-first-refused (c ∷ cs) ys h = go c.fails (first-refused cs ys) h
+first_refused [] ys h = absurd (h refl)
+first_refused (c ∷ cs) ys h = go c.fails (first_refused cs ys) h
   where
     go : (b : Bool) → ((first cs ≡ 0 → ⊥) → first (cs ++ ys) ≡ first cs) → (cond b c.number (first cs) ≡ 0 → ⊥) → cond b c.number (first (cs ++ ys)) ≡ cond b c.number (first cs)
     go true later h = refl
     go false later h = later h
 
-pub append-none : (xs ys : List Check) → Numbered xs → first (xs ++ ys) ≡ 0 → (first xs ≡ 0) × (first ys ≡ 0)
+pub append_none : (xs ys : List Check) → Numbered xs → first (xs ++ ys) ≡ 0 → (first xs ≡ 0) × (first ys ≡ 0)
 unfolding first
-append-none [] ys n e = (refl, e)
-append-none (c ∷ cs) ys n e =
-    let p = no-number c.fails c.number (first (cs ++ ys)) n.0 e in
-    let q = append-none cs ys n.1 p.1 in
+append_none [] ys n e = (refl, e)
+append_none (c ∷ cs) ys n e =
+    let p = no_number c.fails c.number (first (cs ++ ys)) n.0 e in
+    let q = append_none cs ys n.1 p.1 in
     (rw p.0 q.0, q.1)

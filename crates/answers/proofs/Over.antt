@@ -8,15 +8,15 @@ use lib.ListN.{length, drop, drop_of_length-le}
 use Rattle.answers.specs.Lists.{over}
 
 module _ {A : Type 0} (xs ys : List A) where
-  pub over-short : length ys < length xs → over xs ys ≡ ys
+  pub over_short : length ys < length xs → over xs ys ≡ ys
   unfolding over
-  over-short h = rw (lt-ltb (length ys) (length xs) h)
+  over_short h = rw (lt-ltb (length ys) (length xs) h)
 
-  pub over-room : length xs ≤ length ys → over xs ys ≡ xs ++ drop (length xs) ys
+  pub over_room : length xs ≤ length ys → over xs ys ≡ xs ++ drop (length xs) ys
   unfolding over
-  over-room h = rw (le-ltb (length ys) (length xs) h)
+  over_room h = rw (le-ltb (length ys) (length xs) h)
 
-  pub over-all : length ys ≡ length xs → over xs ys ≡ xs
-  over-all h =
+  pub over_all : length ys ≡ length xs → over xs ys ≡ xs
+  over_all h =
       let e : length ys ≤ length xs = omega arith in
-      over-room (omega arith) ∙ rw (drop_of_length-le ys e) (append-nil xs)
+      over_room (omega arith) ∙ rw (drop_of_length-le ys e) (append-nil xs)

@@ -6,9 +6,9 @@ use Prim.Native.Nat.{ℕ}
 use lib.Dec.{eqb}
 use lib.Ieee.{Float}
 use borrow.Author.Tests.{ne_eqb}
-use Rattle.leaves.specs.Constants.{plusZero}
+use Rattle.leaves.specs.Constants.{plus_zero}
 use Rattle.answers.specs.Outcome.{refused}
-use Rattle.answers.specs.Answers.{valued, yes, paper, isPoint, parameterPaper, isParameter, directionPaper, isDirection, positionPaper, isPosition, middlePaper, isMiddle}
+use Rattle.answers.specs.Answers.{valued, yes, paper, is_point, parameter_paper, is_parameter, direction_paper, is_direction, position_paper, is_position, middle_paper, is_middle}
 use Rattle.answers.specs.declared.outcomes.Answer.TheVariants.{Point, Refused}
 use Rattle.answers.specs.declared.outcomes.ParameterAnswer.TheVariants.{Parameter, Refused as NoParameter}
 use Rattle.answers.specs.declared.outcomes.DirectionAnswer.TheVariants.{Direction, Refused as NoDirection}
@@ -17,84 +17,84 @@ use Rattle.answers.specs.declared.outcomes.MiddleAnswer.TheVariants.{Middle, Ref
 
 -- ---- chart and picks
 
-pub paper-point : (x y z clearance : Float) (count : ℕ) → paper (Point x y z clearance count) ≡ record { status = 0; x = x; y = y; z = z; clearance = clearance; count = count }
+pub paper_point : (x y z clearance : Float) (count : ℕ) → paper (Point x y z clearance count) ≡ record { status = 0; x = x; y = y; z = z; clearance = clearance; count = count }
 unfolding paper
-paper-point x y z clearance count = refl
+paper_point x y z clearance count = refl
 
-pub paper-refused : (n : ℕ) → paper (Refused n) ≡ refused n
+pub paper_refused : (n : ℕ) → paper (Refused n) ≡ refused n
 unfolding paper
-paper-refused n = refl
+paper_refused n = refl
 
-pub point-answers : (x y z clearance : Float) (count : ℕ) → isPoint (Point x y z clearance count) ≡ eqb (paper (Point x y z clearance count)).status 0
-unfolding paper isPoint
-point-answers x y z clearance count = refl
+pub point_answers : (x y z clearance : Float) (count : ℕ) → is_point (Point x y z clearance count) ≡ eqb (paper (Point x y z clearance count)).status 0
+unfolding paper is_point
+point_answers x y z clearance count = refl
 
-pub refused-no-point : (n : ℕ) → (n ≡ 0 → ⊥) → isPoint (Refused n) ≡ eqb (paper (Refused n)).status 0
-unfolding paper isPoint
-refused-no-point n h = sym (ne_eqb n 0 h)
+pub refused_no_point : (n : ℕ) → (n ≡ 0 → ⊥) → is_point (Refused n) ≡ eqb (paper (Refused n)).status 0
+unfolding paper is_point
+refused_no_point n h = sym (ne_eqb n 0 h)
 
 -- ---- the calls after the picker
 
-pub paper-parameter : (t : Float) → parameterPaper (Parameter t) ≡ valued t plusZero plusZero
-unfolding parameterPaper
-paper-parameter t = refl
+pub paper_parameter : (t : Float) → parameter_paper (Parameter t) ≡ valued t plus_zero plus_zero
+unfolding parameter_paper
+paper_parameter t = refl
 
-pub paper-no-parameter : (n : ℕ) → parameterPaper (NoParameter n) ≡ refused n
-unfolding parameterPaper
-paper-no-parameter n = refl
+pub paper_no_parameter : (n : ℕ) → parameter_paper (NoParameter n) ≡ refused n
+unfolding parameter_paper
+paper_no_parameter n = refl
 
-pub parameter-answers : (t : Float) → isParameter (Parameter t) ≡ eqb (parameterPaper (Parameter t)).status 0
-unfolding parameterPaper isParameter
-parameter-answers t = refl
+pub parameter_answers : (t : Float) → is_parameter (Parameter t) ≡ eqb (parameter_paper (Parameter t)).status 0
+unfolding parameter_paper is_parameter
+parameter_answers t = refl
 
-pub refused-no-parameter : (n : ℕ) → (n ≡ 0 → ⊥) → isParameter (NoParameter n) ≡ eqb (parameterPaper (NoParameter n)).status 0
-unfolding parameterPaper isParameter
-refused-no-parameter n h = sym (ne_eqb n 0 h)
+pub refused_no_parameter : (n : ℕ) → (n ≡ 0 → ⊥) → is_parameter (NoParameter n) ≡ eqb (parameter_paper (NoParameter n)).status 0
+unfolding parameter_paper is_parameter
+refused_no_parameter n h = sym (ne_eqb n 0 h)
 
-pub paper-direction : (reverse keep : Bool) → directionPaper (Direction reverse keep) ≡ valued (yes reverse) (yes keep) plusZero
-unfolding directionPaper
-paper-direction reverse keep = refl
+pub paper_direction : (reverse keep : Bool) → direction_paper (Direction reverse keep) ≡ valued (yes reverse) (yes keep) plus_zero
+unfolding direction_paper
+paper_direction reverse keep = refl
 
-pub paper-no-direction : (n : ℕ) → directionPaper (NoDirection n) ≡ refused n
-unfolding directionPaper
-paper-no-direction n = refl
+pub paper_no_direction : (n : ℕ) → direction_paper (NoDirection n) ≡ refused n
+unfolding direction_paper
+paper_no_direction n = refl
 
-pub direction-answers : (reverse keep : Bool) → isDirection (Direction reverse keep) ≡ eqb (directionPaper (Direction reverse keep)).status 0
-unfolding directionPaper isDirection
-direction-answers reverse keep = refl
+pub direction_answers : (reverse keep : Bool) → is_direction (Direction reverse keep) ≡ eqb (direction_paper (Direction reverse keep)).status 0
+unfolding direction_paper is_direction
+direction_answers reverse keep = refl
 
-pub refused-no-direction : (n : ℕ) → (n ≡ 0 → ⊥) → isDirection (NoDirection n) ≡ eqb (directionPaper (NoDirection n)).status 0
-unfolding directionPaper isDirection
-refused-no-direction n h = sym (ne_eqb n 0 h)
+pub refused_no_direction : (n : ℕ) → (n ≡ 0 → ⊥) → is_direction (NoDirection n) ≡ eqb (direction_paper (NoDirection n)).status 0
+unfolding direction_paper is_direction
+refused_no_direction n h = sym (ne_eqb n 0 h)
 
-pub paper-position : (x y z : Float) → positionPaper (Position x y z) ≡ valued x y z
-unfolding positionPaper
-paper-position x y z = refl
+pub paper_position : (x y z : Float) → position_paper (Position x y z) ≡ valued x y z
+unfolding position_paper
+paper_position x y z = refl
 
-pub paper-no-position : (n : ℕ) → positionPaper (NoPosition n) ≡ refused n
-unfolding positionPaper
-paper-no-position n = refl
+pub paper_no_position : (n : ℕ) → position_paper (NoPosition n) ≡ refused n
+unfolding position_paper
+paper_no_position n = refl
 
-pub position-answers : (x y z : Float) → isPosition (Position x y z) ≡ eqb (positionPaper (Position x y z)).status 0
-unfolding positionPaper isPosition
-position-answers x y z = refl
+pub position_answers : (x y z : Float) → is_position (Position x y z) ≡ eqb (position_paper (Position x y z)).status 0
+unfolding position_paper is_position
+position_answers x y z = refl
 
-pub refused-no-position : (n : ℕ) → (n ≡ 0 → ⊥) → isPosition (NoPosition n) ≡ eqb (positionPaper (NoPosition n)).status 0
-unfolding positionPaper isPosition
-refused-no-position n h = sym (ne_eqb n 0 h)
+pub refused_no_position : (n : ℕ) → (n ≡ 0 → ⊥) → is_position (NoPosition n) ≡ eqb (position_paper (NoPosition n)).status 0
+unfolding position_paper is_position
+refused_no_position n h = sym (ne_eqb n 0 h)
 
-pub paper-middle : (angle height : Float) → middlePaper (Middle angle height) ≡ valued angle height plusZero
-unfolding middlePaper
-paper-middle angle height = refl
+pub paper_middle : (angle height : Float) → middle_paper (Middle angle height) ≡ valued angle height plus_zero
+unfolding middle_paper
+paper_middle angle height = refl
 
-pub paper-no-middle : (n : ℕ) → middlePaper (NoMiddle n) ≡ refused n
-unfolding middlePaper
-paper-no-middle n = refl
+pub paper_no_middle : (n : ℕ) → middle_paper (NoMiddle n) ≡ refused n
+unfolding middle_paper
+paper_no_middle n = refl
 
-pub middle-answers : (angle height : Float) → isMiddle (Middle angle height) ≡ eqb (middlePaper (Middle angle height)).status 0
-unfolding middlePaper isMiddle
-middle-answers angle height = refl
+pub middle_answers : (angle height : Float) → is_middle (Middle angle height) ≡ eqb (middle_paper (Middle angle height)).status 0
+unfolding middle_paper is_middle
+middle_answers angle height = refl
 
-pub refused-no-middle : (n : ℕ) → (n ≡ 0 → ⊥) → isMiddle (NoMiddle n) ≡ eqb (middlePaper (NoMiddle n)).status 0
-unfolding middlePaper isMiddle
-refused-no-middle n h = sym (ne_eqb n 0 h)
+pub refused_no_middle : (n : ℕ) → (n ≡ 0 → ⊥) → is_middle (NoMiddle n) ≡ eqb (middle_paper (NoMiddle n)).status 0
+unfolding middle_paper is_middle
+refused_no_middle n h = sym (ne_eqb n 0 h)

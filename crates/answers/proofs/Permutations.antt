@@ -7,14 +7,14 @@ use mathlib.Core.List.{List, [], ◌∷◌, ◌++◌, map, flatten, append_assoc
 use Prim.Native.Nat.{suc}
 use native.Mathlib.Omega.{arith}
 use lib.ListN.{length}
-use Rattle.leaves.proofs.Folds.{All, all-append}
-use Rattle.answers.specs.Lists.{anyOf}
+use Rattle.leaves.proofs.Folds.{All, all_append}
+use Rattle.answers.specs.Lists.{any_of}
 
-pub map-perm : {A B : Type 0} (f : A → B) {xs ys : List A} → Permᴰ xs ys → Permᴰ (map f xs) (map f ys)
-map-perm f Permᴰ.nil = Permᴰ.nil
-map-perm f (Permᴰ.cons e d) = Permᴰ.cons (ap f e) (map-perm f d)
-map-perm f (Permᴰ.swap e₁ e₂) = Permᴰ.swap (ap f e₁) (ap f e₂)
-map-perm f (Permᴰ.trans d₁ d₂) = Permᴰ.trans (map-perm f d₁) (map-perm f d₂)
+pub map_perm : {A B : Type 0} (f : A → B) {xs ys : List A} → Permᴰ xs ys → Permᴰ (map f xs) (map f ys)
+map_perm f Permᴰ.nil = Permᴰ.nil
+map_perm f (Permᴰ.cons e d) = Permᴰ.cons (ap f e) (map_perm f d)
+map_perm f (Permᴰ.swap e₁ e₂) = Permᴰ.swap (ap f e₁) (ap f e₂)
+map_perm f (Permᴰ.trans d₁ d₂) = Permᴰ.trans (map_perm f d₁) (map_perm f d₂)
 
 -- a list whose image is put in another order is itself in an order that has this image
 module _ {A B : Type 0} (f : A → B) where
@@ -35,14 +35,14 @@ module _ {A B : Type 0} (f : A → B) where
       let m = lift d₂ l.0 l.2 in
       (m.0, Permᴰ.trans l.1 m.1, m.2)
 
-  pub lift-perm : (xs : List A) {ys : List B} → Permᴰ (map f xs) ys → (zs : List A) × Permᴰ xs zs × (map f zs ≡ ys)
-  lift-perm xs d = lift d xs refl
+  pub lift_perm : (xs : List A) {ys : List B} → Permᴰ (map f xs) ys → (zs : List A) × Permᴰ xs zs × (map f zs ≡ ys)
+  lift_perm xs d = lift d xs refl
 
-pub perm-length : {A : Type 0} {xs ys : List A} → Permᴰ xs ys → length xs ≡ length ys
-perm-length Permᴰ.nil = refl
-perm-length (Permᴰ.cons e d) = ap suc (perm-length d)
-perm-length (Permᴰ.swap e₁ e₂) = refl
-perm-length (Permᴰ.trans d₁ d₂) = perm-length d₁ ∙ perm-length d₂
+pub perm_length : {A : Type 0} {xs ys : List A} → Permᴰ xs ys → length xs ≡ length ys
+perm_length Permᴰ.nil = refl
+perm_length (Permᴰ.cons e d) = ap suc (perm_length d)
+perm_length (Permᴰ.swap e₁ e₂) = refl
+perm_length (Permᴰ.trans d₁ d₂) = perm_length d₁ ∙ perm_length d₂
 
 -- equal lists
 same : {A : Type 0} {xs ys : List A} → xs ≡ ys → Permᴰ xs ys
@@ -53,38 +53,38 @@ front : {A : Type 0} (xs ys zs : List A) → Permᴰ (xs ++ (ys ++ zs)) (ys ++ (
 front xs ys zs =
     Permᴰ.trans (same (sym (append_assoc xs ys zs))) (Permᴰ.trans (Permᴰ.append_right zs (Permᴰ.append_comm xs ys)) (same (append_assoc ys xs zs)))
 
-pub flatten-perm : {A : Type 0} {xs ys : List (List A)} → Permᴰ xs ys → Permᴰ (flatten xs) (flatten ys)
+pub flatten_perm : {A : Type 0} {xs ys : List (List A)} → Permᴰ xs ys → Permᴰ (flatten xs) (flatten ys)
 unfolding flatten
-flatten-perm Permᴰ.nil = Permᴰ.nil
-flatten-perm {A} (Permᴰ.cons {a = a} {l₂ = ys} e d) = Permᴰ.trans (Permᴰ.append_left a (flatten-perm d)) (same (ap (λ (l : List A). l ++ flatten ys) e))
-flatten-perm {A} (Permᴰ.swap {a = a} {b = b} {l = l} e₁ e₂) =
+flatten_perm Permᴰ.nil = Permᴰ.nil
+flatten_perm {A} (Permᴰ.cons {a = a} {l₂ = ys} e d) = Permᴰ.trans (Permᴰ.append_left a (flatten_perm d)) (same (ap (λ (l : List A). l ++ flatten ys) e))
+flatten_perm {A} (Permᴰ.swap {a = a} {b = b} {l = l} e₁ e₂) =
     Permᴰ.trans (front a b (flatten l)) (same (ap₂ (λ (x y : List A). x ++ (y ++ flatten l)) e₂ e₁))
-flatten-perm (Permᴰ.trans d₁ d₂) = Permᴰ.trans (flatten-perm d₁) (flatten-perm d₂)
+flatten_perm (Permᴰ.trans d₁ d₂) = Permᴰ.trans (flatten_perm d₁) (flatten_perm d₂)
 
-or-swap : (a b r : Bool) → (a || (b || r)) ≡ (b || (a || r))
-or-swap true true r = refl
-or-swap true false r = refl
-or-swap false b r = refl
+or_swap : (a b r : Bool) → (a || (b || r)) ≡ (b || (a || r))
+or_swap true true r = refl
+or_swap true false r = refl
+or_swap false b r = refl
 
-pub any-of-perm : {A : Type 0} (test : A → Bool) {xs ys : List A} → Permᴰ xs ys → anyOf test xs ≡ anyOf test ys
-unfolding anyOf
-any-of-perm test Permᴰ.nil = refl
-any-of-perm test (Permᴰ.cons e d) = ap₂ ◌||◌ (ap test e) (any-of-perm test d)
-any-of-perm test (Permᴰ.swap {a = a} {b = b} {l = l} e₁ e₂) =
-    or-swap (test a) (test b) (anyOf test l) ∙ ap₂ (λ (x y : Bool). x || (y || anyOf test l)) (ap test e₂) (ap test e₁)
-any-of-perm test (Permᴰ.trans d₁ d₂) = any-of-perm test d₁ ∙ any-of-perm test d₂
+pub any_of_perm : {A : Type 0} (test : A → Bool) {xs ys : List A} → Permᴰ xs ys → any_of test xs ≡ any_of test ys
+unfolding any_of
+any_of_perm test Permᴰ.nil = refl
+any_of_perm test (Permᴰ.cons e d) = ap₂ ◌||◌ (ap test e) (any_of_perm test d)
+any_of_perm test (Permᴰ.swap {a = a} {b = b} {l = l} e₁ e₂) =
+    or_swap (test a) (test b) (any_of test l) ∙ ap₂ (λ (x y : Bool). x || (y || any_of test l)) (ap test e₂) (ap test e₁)
+any_of_perm test (Permᴰ.trans d₁ d₂) = any_of_perm test d₁ ∙ any_of_perm test d₂
 
 -- ---- what holds of every element
 
-pub all-map : {A B : Type 0} (Q : B → Type 0) (f : A → B) (xs : List A) → All (λ (x : A). Q (f x)) xs → All Q (map f xs)
-all-map Q f [] h = tt
-all-map Q f (x ∷ xs) h = (h.0, all-map Q f xs h.1)
+pub all_map : {A B : Type 0} (Q : B → Type 0) (f : A → B) (xs : List A) → All (λ (x : A). Q (f x)) xs → All Q (map f xs)
+all_map Q f [] h = tt
+all_map Q f (x ∷ xs) h = (h.0, all_map Q f xs h.1)
 
-pub all-weaken : {A : Type 0} (P Q : A → Type 0) → ((a : A) → P a → Q a) → (xs : List A) → All P xs → All Q xs
-all-weaken P Q k [] h = tt
-all-weaken P Q k (x ∷ xs) h = (k x h.0, all-weaken P Q k xs h.1)
+pub all_weaken : {A : Type 0} (P Q : A → Type 0) → ((a : A) → P a → Q a) → (xs : List A) → All P xs → All Q xs
+all_weaken P Q k [] h = tt
+all_weaken P Q k (x ∷ xs) h = (k x h.0, all_weaken P Q k xs h.1)
 
-pub all-flatten : {A : Type 0} (Q : A → Type 0) (xs : List (List A)) → All (All Q) xs → All Q (flatten xs)
+pub all_flatten : {A : Type 0} (Q : A → Type 0) (xs : List (List A)) → All (All Q) xs → All Q (flatten xs)
 unfolding flatten
-all-flatten Q [] h = tt
-all-flatten Q (x ∷ xs) h = all-append Q x (flatten xs) h.0 (all-flatten Q xs h.1)
+all_flatten Q [] h = tt
+all_flatten Q (x ∷ xs) h = all_append Q x (flatten xs) h.0 (all_flatten Q xs h.1)

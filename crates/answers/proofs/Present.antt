@@ -8,9 +8,9 @@ use lib.Ieee.{Float}
 use lib.ListN.{length}
 use borrow.Author.Tests.{eqb-true, not-false}
 use Rattle.answers.specs.Limits.{beyond, missing}
-use Rattle.answers.specs.Lists.{anyOf}
+use Rattle.answers.specs.Lists.{any_of}
 use Rattle.answers.proofs.AnyOf.{neither}
 
 pub present : (n : ℕ) (limit : Float) (xs : List Float) → missing n limit xs ≡ false → length xs ≡ n
 unfolding missing
-present n limit xs e = eqb-true (length xs) n (not-false (eqb (length xs) n) (neither (not (eqb (length xs) n)) (anyOf (beyond limit) xs) e).0)
+present n limit xs e = eqb-true (length xs) n (not-false (eqb (length xs) n) (neither (not (eqb (length xs) n)) (any_of (beyond limit) xs) e).0)

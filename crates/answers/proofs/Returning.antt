@@ -10,53 +10,53 @@ use lib.ListN.{length, set}
 use borrow.Author.Tests.{eq-eqb, ne_eqb}
 use Rattle.answers.specs.Outcome.{Numbers, refused}
 use Rattle.answers.specs.Answers.{paper}
-use Rattle.answers.specs.Returned.{Returned, returned, five, returnedOf, zeros}
+use Rattle.answers.specs.Returned.{Returned, returned, five, returned_of, zeros}
 use Rattle.answers.specs.declared.outcomes.Answer.{Answer}
 use Rattle.answers.specs.declared.outcomes.Answer.TheVariants.{Point, Refused}
-use Rattle.answers.proofs.Papers.{paper-point, paper-refused}
+use Rattle.answers.proofs.Papers.{paper_point, paper_refused}
 
 shorter : (n : ℕ) → suc (suc (suc (suc (suc (suc n))))) ≡ 5 → ⊥
 shorter n e = omega arith
 
-pub five-stored : (xs : List Float) (a b c d e : Float) → length xs ≡ 5 → set (set (set (set (set xs 0 a) 1 b) 2 c) 3 d) 4 e ≡ a ∷ b ∷ c ∷ d ∷ e ∷ []
-five-stored [] a b c d e h = absurd (omega arith)
-five-stored (p ∷ []) a b c d e h = absurd (omega arith)
-five-stored (p ∷ q ∷ []) a b c d e h = absurd (omega arith)
-five-stored (p ∷ q ∷ r ∷ []) a b c d e h = absurd (omega arith)
-five-stored (p ∷ q ∷ r ∷ s ∷ []) a b c d e h = absurd (omega arith)
-five-stored (p ∷ q ∷ r ∷ s ∷ t ∷ []) a b c d e h = refl
-five-stored (p ∷ q ∷ r ∷ s ∷ t ∷ u ∷ xs) a b c d e h = absurd (shorter (length xs) h)
+pub five_stored : (xs : List Float) (a b c d e : Float) → length xs ≡ 5 → set (set (set (set (set xs 0 a) 1 b) 2 c) 3 d) 4 e ≡ a ∷ b ∷ c ∷ d ∷ e ∷ []
+five_stored [] a b c d e h = absurd (omega arith)
+five_stored (p ∷ []) a b c d e h = absurd (omega arith)
+five_stored (p ∷ q ∷ []) a b c d e h = absurd (omega arith)
+five_stored (p ∷ q ∷ r ∷ []) a b c d e h = absurd (omega arith)
+five_stored (p ∷ q ∷ r ∷ s ∷ []) a b c d e h = absurd (omega arith)
+five_stored (p ∷ q ∷ r ∷ s ∷ t ∷ []) a b c d e h = refl
+five_stored (p ∷ q ∷ r ∷ s ∷ t ∷ u ∷ xs) a b c d e h = absurd (shorter (length xs) h)
 
 -- ---- what an answer's five numbers are
 
-pub point-five : (x y z clearance : Float) (count : ℕ) → (0 ≡ (paper (Point x y z clearance count)).status) × (x ∷ y ∷ z ∷ clearance ∷ of_int binary64 (pos count) ∷ [] ≡ five (paper (Point x y z clearance count)))
+pub point_five : (x y z clearance : Float) (count : ℕ) → (0 ≡ (paper (Point x y z clearance count)).status) × (x ∷ y ∷ z ∷ clearance ∷ of_int binary64 (pos count) ∷ [] ≡ five (paper (Point x y z clearance count)))
 unfolding five
-point-five x y z clearance count = rw (paper-point x y z clearance count) (refl, refl)
+point_five x y z clearance count = rw (paper_point x y z clearance count) (refl, refl)
 
-pub refused-five : (n : ℕ) → (n ≡ (paper (Refused n)).status) × (zeros ≡ five (paper (Refused n)))
+pub refused_five : (n : ℕ) → (n ≡ (paper (Refused n)).status) × (zeros ≡ five (paper (Refused n)))
 unfolding five of_bits
-refused-five n = rw (paper-refused n) (refl, refl)
+refused_five n = rw (paper_refused n) (refl, refl)
 
 -- ---- what a call returns
 
-pub other-length : (n : Numbers) (result : List Float) → (length result ≡ 5 → ⊥) → returned 1 result ≡ returnedOf n result
-unfolding returnedOf
-other-length n result h = rw (ne_eqb _ _ h)
+pub other_length : (n : Numbers) (result : List Float) → (length result ≡ 5 → ⊥) → returned 1 result ≡ returned_of n result
+unfolding returned_of
+other_length n result h = rw (ne_eqb _ _ h)
 
-pub all-stored : (r : Answer) (result stored : List Float) (status : ℕ) → length result ≡ 5 → (status ≡ (paper r).status) × (stored ≡ five (paper r)) → returned status stored ≡ returnedOf (paper r) result
-unfolding returnedOf
-all-stored r result stored status h p = rw (eq-eqb _ _ h, p.0, p.1)
+pub all_stored : (r : Answer) (result stored : List Float) (status : ℕ) → length result ≡ 5 → (status ≡ (paper r).status) × (stored ≡ five (paper r)) → returned status stored ≡ returned_of (paper r) result
+unfolding returned_of
+all_stored r result stored status h p = rw (eq-eqb _ _ h, p.0, p.1)
 
 -- ---- what a host reads in it
 
 module _ (n : Numbers) (result : List Float) (h : length result ≡ 5) where
-  returned-is : returnedOf n result ≡ returned n.status (five n)
-  unfolding returnedOf
-  returned-is = ap (λ (b : Bool). cond b (returned n.status (five n)) (returned 1 result)) (eq-eqb _ _ h)
+  returned_is : returned_of n result ≡ returned n.status (five n)
+  unfolding returned_of
+  returned_is = ap (λ (b : Bool). cond b (returned n.status (five n)) (returned 1 result)) (eq-eqb _ _ h)
 
-  pub status-is : (returnedOf n result).status ≡ n.status
-  status-is = ap (λ (r : Returned). r.status) returned-is
+  pub status_is : (returned_of n result).status ≡ n.status
+  status_is = ap (λ (r : Returned). r.status) returned_is
 
-  pub zeros-beside : n ≡ refused n.status → (returnedOf n result).result ≡ zeros
+  pub zeros_beside : n ≡ refused n.status → (returned_of n result).result ≡ zeros
   unfolding five of_bits
-  zeros-beside e = ap (λ (r : Returned). r.result) returned-is ∙ ap five e
+  zeros_beside e = ap (λ (r : Returned). r.result) returned_is ∙ ap five e

@@ -7,59 +7,59 @@ use native.Mathlib.Omega.{arith}
 use lib.Dec.{eqb}
 use borrow.Author.Tests.{eq-eqb, eqb-true, ne_eqb}
 use Rattle.answers.specs.Outcome.{Check, check, first, Numbers, refused, settled}
-use Rattle.answers.proofs.FirstCheck.{first-here, first-later}
+use Rattle.answers.proofs.FirstCheck.{first_here, first_later}
 
-pub settled-none : (refusal : ℕ) (numbers : Numbers) → refusal ≡ 0 → settled refusal numbers ≡ numbers
+pub settled_none : (refusal : ℕ) (numbers : Numbers) → refusal ≡ 0 → settled refusal numbers ≡ numbers
 unfolding settled
-settled-none refusal numbers e = rw (eq-eqb refusal 0 e)
+settled_none refusal numbers e = rw (eq-eqb refusal 0 e)
 
-pub settled-refused : (refusal : ℕ) (numbers : Numbers) → (refusal ≡ 0 → ⊥) → settled refusal numbers ≡ refused refusal
+pub settled_refused : (refusal : ℕ) (numbers : Numbers) → (refusal ≡ 0 → ⊥) → settled refusal numbers ≡ refused refusal
 unfolding settled
-settled-refused refusal numbers h = rw (ne_eqb refusal 0 h)
+settled_refused refusal numbers h = rw (ne_eqb refusal 0 h)
 
-pub settled-status : (refusal : ℕ) (numbers : Numbers) → numbers.status ≡ 0 → (settled refusal numbers).status ≡ refusal
+pub settled_status : (refusal : ℕ) (numbers : Numbers) → numbers.status ≡ 0 → (settled refusal numbers).status ≡ refusal
 unfolding settled
-settled-status refusal numbers answers = by (eqb refusal 0) refl
+settled_status refusal numbers answers = by (eqb refusal 0) refl
   where
     by : (b : Bool) → eqb refusal 0 ≡ b → (cond b numbers (refused refusal)).status ≡ refusal
     by true e = answers ∙ sym (eqb-true refusal 0 e)
     by false e = refl
 
 -- where a refusal's other numbers are 0, they are 0 once more checks came before it
-pub settled-zeros : (refusal : ℕ) (numbers : Numbers) → ((numbers.status ≡ 0 → ⊥) → numbers ≡ refused numbers.status) → ((settled refusal numbers).status ≡ 0 → ⊥) → settled refusal numbers ≡ refused (settled refusal numbers).status
+pub settled_zeros : (refusal : ℕ) (numbers : Numbers) → ((numbers.status ≡ 0 → ⊥) → numbers ≡ refused numbers.status) → ((settled refusal numbers).status ≡ 0 → ⊥) → settled refusal numbers ≡ refused (settled refusal numbers).status
 unfolding settled
-settled-zeros refusal numbers zeros = by (eqb refusal 0)
+settled_zeros refusal numbers zeros = by (eqb refusal 0)
   where
     by : (b : Bool) → ((cond b numbers (refused refusal)).status ≡ 0 → ⊥) → cond b numbers (refused refusal) ≡ refused (cond b numbers (refused refusal)).status
     by true h = zeros h
     by false h = refl
 
 -- what holds of the first check that fails, and of the status behind, holds of the status settled
-pub settled-holds : (P : ℕ → Type 0) (refusal : ℕ) (numbers : Numbers) → P refusal → P numbers.status → P (settled refusal numbers).status
+pub settled_holds : (P : ℕ → Type 0) (refusal : ℕ) (numbers : Numbers) → P refusal → P numbers.status → P (settled refusal numbers).status
 unfolding settled
-settled-holds P refusal numbers h k = by (eqb refusal 0)
+settled_holds P refusal numbers h k = by (eqb refusal 0)
   where
     by : (b : Bool) → P (cond b numbers (refused refusal)).status
     by true = k
     by false = h
 
 -- by one last row
-pub settled-last : (n : ℕ) → 0 < n → (b : Bool) (numbers : Numbers) → settled (first (check n b ∷ [])) numbers ≡ cond b (refused n) numbers
+pub settled_last : (n : ℕ) → 0 < n → (b : Bool) (numbers : Numbers) → settled (first (check n b ∷ [])) numbers ≡ cond b (refused n) numbers
 unfolding first settled
-settled-last n h true numbers = settled-refused n numbers (λ e. omega arith)
-settled-last n h false numbers = refl
+settled_last n h true numbers = settled_refused n numbers (λ e. omega arith)
+settled_last n h false numbers = refl
 
 -- ---- a table, a row at a time
 
 -- the first row's check fails
-pub settled-here : (n : ℕ) → 0 < n → (b : Bool) (cs : List Check) (numbers : Numbers) → b ≡ true → settled (first (check n b ∷ cs)) numbers ≡ refused n
-settled-here n h b cs numbers e = ap (λ (r : ℕ). settled r numbers) (first-here (check n b) cs e) ∙ settled-refused n numbers (λ z. omega arith)
+pub settled_here : (n : ℕ) → 0 < n → (b : Bool) (cs : List Check) (numbers : Numbers) → b ≡ true → settled (first (check n b ∷ cs)) numbers ≡ refused n
+settled_here n h b cs numbers e = ap (λ (r : ℕ). settled r numbers) (first_here (check n b) cs e) ∙ settled_refused n numbers (λ z. omega arith)
 
 -- it does not
-pub settled-later : (n : ℕ) (b : Bool) (cs : List Check) (numbers : Numbers) → b ≡ false → settled (first (check n b ∷ cs)) numbers ≡ settled (first cs) numbers
-settled-later n b cs numbers e = ap (λ (r : ℕ). settled r numbers) (first-later (check n b) cs e)
+pub settled_later : (n : ℕ) (b : Bool) (cs : List Check) (numbers : Numbers) → b ≡ false → settled (first (check n b ∷ cs)) numbers ≡ settled (first cs) numbers
+settled_later n b cs numbers e = ap (λ (r : ℕ). settled r numbers) (first_later (check n b) cs e)
 
 -- no row is left
-pub settled-empty : (numbers : Numbers) → settled (first []) numbers ≡ numbers
+pub settled_empty : (numbers : Numbers) → settled (first []) numbers ≡ numbers
 unfolding first settled
-settled-empty numbers = refl
+settled_empty numbers = refl

@@ -5,7 +5,7 @@
 -- Beside the numbers stands whether it is an answer: the numbers alone do not tell an answer of zeros from a refusal
 -- with the number 0.
 use Rattle.std.specs.Prelude.{Bool, true, false, cond, Float}
-use Rattle.leaves.specs.Constants.{plusZero, one}
+use Rattle.leaves.specs.Constants.{plus_zero, one}
 use Rattle.answers.specs.Outcome.{Numbers, refused}
 use Rattle.answers.specs.declared.outcomes.Answer.{Answer}
 use Rattle.answers.specs.declared.outcomes.Answer.TheVariants.{Point, Refused}
@@ -24,47 +24,47 @@ unfoldable pub paper : Answer → Numbers
 paper (Point x y z clearance count) = record { status = 0; x = x; y = y; z = z; clearance = clearance; count = count }
 paper (Refused n) = refused n
 
-unfoldable pub isPoint : Answer → Bool
-isPoint (Point x y z clearance count) = true
-isPoint (Refused n) = false
+unfoldable pub is_point : Answer → Bool
+is_point (Point x y z clearance count) = true
+is_point (Refused n) = false
 
 -- ---- the calls after the picker
 
 -- values answered, with status, clearance and count 0
 abbrev pub valued : Float → Float → Float → Numbers
-valued x y z = record { status = 0; x = x; y = y; z = z; clearance = plusZero; count = 0 }
+valued x y z = record { status = 0; x = x; y = y; z = z; clearance = plus_zero; count = 0 }
 
 abbrev pub yes : Bool → Float
-yes b = cond b one plusZero
+yes b = cond b one plus_zero
 
-unfoldable pub parameterPaper : ParameterAnswer → Numbers
-parameterPaper (Parameter t) = valued t plusZero plusZero
-parameterPaper (NoParameter n) = refused n
+unfoldable pub parameter_paper : ParameterAnswer → Numbers
+parameter_paper (Parameter t) = valued t plus_zero plus_zero
+parameter_paper (NoParameter n) = refused n
 
-unfoldable pub isParameter : ParameterAnswer → Bool
-isParameter (Parameter t) = true
-isParameter (NoParameter n) = false
+unfoldable pub is_parameter : ParameterAnswer → Bool
+is_parameter (Parameter t) = true
+is_parameter (NoParameter n) = false
 
-unfoldable pub directionPaper : DirectionAnswer → Numbers
-directionPaper (Direction reverse keep) = valued (yes reverse) (yes keep) plusZero
-directionPaper (NoDirection n) = refused n
+unfoldable pub direction_paper : DirectionAnswer → Numbers
+direction_paper (Direction reverse keep) = valued (yes reverse) (yes keep) plus_zero
+direction_paper (NoDirection n) = refused n
 
-unfoldable pub isDirection : DirectionAnswer → Bool
-isDirection (Direction reverse keep) = true
-isDirection (NoDirection n) = false
+unfoldable pub is_direction : DirectionAnswer → Bool
+is_direction (Direction reverse keep) = true
+is_direction (NoDirection n) = false
 
-unfoldable pub positionPaper : PositionAnswer → Numbers
-positionPaper (Position x y z) = valued x y z
-positionPaper (NoPosition n) = refused n
+unfoldable pub position_paper : PositionAnswer → Numbers
+position_paper (Position x y z) = valued x y z
+position_paper (NoPosition n) = refused n
 
-unfoldable pub isPosition : PositionAnswer → Bool
-isPosition (Position x y z) = true
-isPosition (NoPosition n) = false
+unfoldable pub is_position : PositionAnswer → Bool
+is_position (Position x y z) = true
+is_position (NoPosition n) = false
 
-unfoldable pub middlePaper : MiddleAnswer → Numbers
-middlePaper (Middle angle height) = valued angle height plusZero
-middlePaper (NoMiddle n) = refused n
+unfoldable pub middle_paper : MiddleAnswer → Numbers
+middle_paper (Middle angle height) = valued angle height plus_zero
+middle_paper (NoMiddle n) = refused n
 
-unfoldable pub isMiddle : MiddleAnswer → Bool
-isMiddle (Middle angle height) = true
-isMiddle (NoMiddle n) = false
+unfoldable pub is_middle : MiddleAnswer → Bool
+is_middle (Middle angle height) = true
+is_middle (NoMiddle n) = false

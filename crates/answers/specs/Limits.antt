@@ -4,8 +4,8 @@
 use Rattle.std.specs.Prelude.{Bool, not, ◌&&◌, ◌||◌, List, ℕ, eqb, length, Float}
 use Rattle.std.specs.Float.{binary64}
 use Rattle.std.specs.Float.Ieee.{of_bits, neg, le}
-use Rattle.leaves.specs.Constants.{greatestFinite}
-use Rattle.answers.specs.Lists.{anyOf}
+use Rattle.leaves.specs.Constants.{greatest_finite}
+use Rattle.answers.specs.Lists.{any_of}
 
 -- of magnitude above the limit, infinite, or a NaN
 unfoldable pub beyond : Float → Float → Bool
@@ -13,13 +13,13 @@ unfolding le neg
 beyond limit x = not (le (neg limit) x && le x limit)
 
 -- of magnitude above the greatest finite one, infinite, or a NaN
-abbrev pub notFinite : Float → Bool
-notFinite x = beyond greatestFinite x
+abbrev pub not_finite : Float → Bool
+not_finite x = beyond greatest_finite x
 
 -- 16: "or above 2^20 in magnitude", in the triangle and the fallbacks
-abbrev pub argumentLimit : Float
-argumentLimit = of_bits binary64 0x4130000000000000
+abbrev pub argument_limit : Float
+argument_limit = of_bits binary64 0x4130000000000000
 
 -- whether xs is not n numbers, none of them beyond the limit
 unfoldable pub missing : ℕ → Float → List Float → Bool
-missing n limit xs = not (eqb (length xs) n) || anyOf (beyond limit) xs
+missing n limit xs = not (eqb (length xs) n) || any_of (beyond limit) xs

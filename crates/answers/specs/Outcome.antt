@@ -2,7 +2,7 @@
 -- a refusal all other result numbers are 0": the paper's six numbers of a call's outcome, the
 -- status and the five that stand beside it.
 use Rattle.std.specs.Prelude.{Bool, cond, List, [], ◌∷◌, ◌⊎◌, ◌≡◌, ℕ, eqb, Float}
-use Rattle.leaves.specs.Constants.{plusZero}
+use Rattle.leaves.specs.Constants.{plus_zero}
 
 -- ---- the first check that fails
 
@@ -29,7 +29,7 @@ pub record Numbers : Type 0 where
   pub count : ℕ
 
 abbrev pub refused : ℕ → Numbers
-refused n = record { status = n; x = plusZero; y = plusZero; z = plusZero; clearance = plusZero; count = 0 }
+refused n = record { status = n; x = plus_zero; y = plus_zero; z = plus_zero; clearance = plus_zero; count = 0 }
 
 -- the answer's numbers where no check fails, else those of the first that does
 unfoldable pub settled : ℕ → Numbers → Numbers

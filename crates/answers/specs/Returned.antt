@@ -3,7 +3,7 @@
 use Rattle.std.specs.Prelude.{cond, List, [], ◌∷◌, ℕ, eqb, pos, length, Float}
 use Rattle.std.specs.Float.{binary64}
 use Rattle.std.specs.Float.Ieee.{of_int}
-use Rattle.leaves.specs.Constants.{plusZero}
+use Rattle.leaves.specs.Constants.{plus_zero}
 use Rattle.answers.specs.Outcome.{Numbers}
 
 -- the status returned, and the result list afterwards
@@ -20,10 +20,10 @@ unfolding of_int
 five n = n.x ∷ n.y ∷ n.z ∷ n.clearance ∷ of_int binary64 (pos n.count) ∷ []
 
 -- what a call that gives these numbers returns, with this result list at entry
-unfoldable pub returnedOf : Numbers → List Float → Returned
+unfoldable pub returned_of : Numbers → List Float → Returned
 unfolding five
-returnedOf n result = cond (eqb (length result) 5) (returned n.status (five n)) (returned 1 result)
+returned_of n result = cond (eqb (length result) 5) (returned n.status (five n)) (returned 1 result)
 
 -- what stands beside a refusal
 abbrev pub zeros : List Float
-zeros = plusZero ∷ plusZero ∷ plusZero ∷ plusZero ∷ plusZero ∷ []
+zeros = plus_zero ∷ plus_zero ∷ plus_zero ∷ plus_zero ∷ plus_zero ∷ []

@@ -1,7 +1,7 @@
 // The answers of the calls after the picker as an answer of the picker's form, whose five numbers begin
 // with the values answered; a yes is 1, a no 0. A refusal stays one.
 ghost use Rattle.std.specs.Prelude.{◌≡◌};
-ghost use Rattle.answers.specs.Answers.{paper, isPoint, yes as yes_of, parameterPaper, isParameter, directionPaper, isDirection, positionPaper, isPosition, middlePaper, isMiddle};
+ghost use Rattle.answers.specs.Answers.{paper, is_point, yes as yes_of, parameter_paper, is_parameter, direction_paper, is_direction, position_paper, is_position, middle_paper, is_middle};
 
 use crate::outcomes::{Answer, DirectionAnswer, MiddleAnswer, ParameterAnswer, PositionAnswer};
 
@@ -12,7 +12,7 @@ fn yes(b: bool) -> f64
 }
 
 pub fn of_parameter(answer: ParameterAnswer) -> Answer
-    ensures { (paper result ≡ parameterPaper answer) × (isPoint result ≡ isParameter answer) }
+    ensures { (paper result ≡ parameter_paper answer) × (is_point result ≡ is_parameter answer) }
 {
     match answer {
         ParameterAnswer::Parameter(t) => Answer::Point(t, 0.0, 0.0, 0.0, 0),
@@ -21,7 +21,7 @@ pub fn of_parameter(answer: ParameterAnswer) -> Answer
 }
 
 pub fn of_direction(answer: DirectionAnswer) -> Answer
-    ensures { (paper result ≡ directionPaper answer) × (isPoint result ≡ isDirection answer) }
+    ensures { (paper result ≡ direction_paper answer) × (is_point result ≡ is_direction answer) }
 {
     match answer {
         DirectionAnswer::Direction(reverse, keep) => {
@@ -32,7 +32,7 @@ pub fn of_direction(answer: DirectionAnswer) -> Answer
 }
 
 pub fn of_position(answer: PositionAnswer) -> Answer
-    ensures { (paper result ≡ positionPaper answer) × (isPoint result ≡ isPosition answer) }
+    ensures { (paper result ≡ position_paper answer) × (is_point result ≡ is_position answer) }
 {
     match answer {
         PositionAnswer::Position(x, y, z) => Answer::Point(x, y, z, 0.0, 0),
@@ -41,7 +41,7 @@ pub fn of_position(answer: PositionAnswer) -> Answer
 }
 
 pub fn of_middle(answer: MiddleAnswer) -> Answer
-    ensures { (paper result ≡ middlePaper answer) × (isPoint result ≡ isMiddle answer) }
+    ensures { (paper result ≡ middle_paper answer) × (is_point result ≡ is_middle answer) }
 {
     match answer {
         MiddleAnswer::Middle(angle, height) => Answer::Point(angle, height, 0.0, 0.0, 0),

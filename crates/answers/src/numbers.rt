@@ -1,6 +1,6 @@
 // Numbers held against a limit: of one, of a list, and of a list that a call asks for by its length.
 ghost use Rattle.std.specs.Prelude.{◌≡◌};
-ghost use Rattle.answers.specs.Lists.{anyOf};
+ghost use Rattle.answers.specs.Lists.{any_of};
 ghost use Rattle.answers.specs.Limits.{beyond, missing};
 
 // 2^20, for a number of the triangle and of the fallbacks.
@@ -15,7 +15,7 @@ pub fn is_beyond(limit: f64, x: f64) -> bool
 
 // Whether any number of a list is beyond the limit.
 pub fn any_number_beyond(limit: f64, list: &[f64]) -> bool
-    ensures { result ≡ anyOf (beyond limit) list.now }
+    ensures { result ≡ any_of (beyond limit) list.now }
 {
     let mut k = 0;
     while k < list.len() {

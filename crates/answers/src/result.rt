@@ -1,7 +1,7 @@
 // The list of five numbers in which a call's result stands over the C convention.
 ghost use Rattle.std.specs.Prelude.{◌≡◌};
 ghost use Rattle.answers.specs.Answers.{paper};
-ghost use Rattle.answers.specs.Returned.{returned, returnedOf};
+ghost use Rattle.answers.specs.Returned.{returned, returned_of};
 
 use crate::outcomes::Answer;
 
@@ -11,7 +11,7 @@ pub const RESULT_LENGTH: usize = 5;
 // Puts an answer's five numbers into the list, zeros beside a refusal, and gives its status. A list of another length
 // stays as it is, and the status is 1.
 pub fn put(answer: Answer, list: &mut [f64]) -> u32
-    ensures { returned result list.new ≡ returnedOf (paper answer) list.old }
+    ensures { returned result list.new ≡ returned_of (paper answer) list.old }
 {
     if list.len() != RESULT_LENGTH {
         return 1;

@@ -7,18 +7,18 @@ use lib.Ieee.{Float}
 use lib.ListN.{length}
 use borrow.Author.Tests.{eq-eqb, ne_eqb}
 use Rattle.answers.specs.Answers.{paper}
-use Rattle.answers.specs.Returned.{returned, returnedOf}
+use Rattle.answers.specs.Returned.{returned, returned_of}
 use Rattle.answers.specs.declared.outcomes.Answer.{Answer}
-use Rattle.answers.proofs.Returning.{other-length}
+use Rattle.answers.proofs.Returning.{other_length}
 use Rattle.chart.specs.Chart.{Charted, charted}
-use Rattle.capi.specs.Convention.{seen, seenOf}
+use Rattle.capi.specs.Convention.{seen, seen_of}
 
-pub chart-other-length : (given : Charted) (points result : List Float) → (length result ≡ 5 → ⊥) → seen (returned 1 result) points ≡ seenOf given points result
-unfolding seenOf
-chart-other-length given points result h = ap₂ seen (other-length given.numbers result h) (sym (ap (λ (b : Bool). cond b given.points points) (ne_eqb _ _ h)))
+pub chart_other_length : (given : Charted) (points result : List Float) → (length result ≡ 5 → ⊥) → seen (returned 1 result) points ≡ seen_of given points result
+unfolding seen_of
+chart_other_length given points result h = ap₂ seen (other_length given.numbers result h) (sym (ap (λ (b : Bool). cond b given.points points) (ne_eqb _ _ h)))
 
-pub chart-of-five : (given : Charted) (points result stored left : List Float) (status : ℕ) (r : Answer) → length result ≡ 5 → charted (paper r) left ≡ given → returned status stored ≡ returnedOf (paper r) result
-    → seen (returned status stored) left ≡ seenOf given points result
-unfolding seenOf
-chart-of-five given points result stored left status r h e p =
-    ap₂ seen (p ∙ ap (λ (c : Charted). returnedOf c.numbers result) e) (ap (λ (c : Charted). c.points) e ∙ sym (ap (λ (b : Bool). cond b given.points points) (eq-eqb _ _ h)))
+pub chart_of_five : (given : Charted) (points result stored left : List Float) (status : ℕ) (r : Answer) → length result ≡ 5 → charted (paper r) left ≡ given → returned status stored ≡ returned_of (paper r) result
+    → seen (returned status stored) left ≡ seen_of given points result
+unfolding seen_of
+chart_of_five given points result stored left status r h e p =
+    ap₂ seen (p ∙ ap (λ (c : Charted). returned_of c.numbers result) e) (ap (λ (c : Charted). c.points) e ∙ sym (ap (λ (b : Bool). cond b given.points points) (eq-eqb _ _ h)))

@@ -12,87 +12,87 @@ use lib.Ieee.{Float}
 use lib.ListN.{length}
 use borrow.Author.Tests.{eq-eqb}
 use Rattle.answers.specs.Outcome.{Numbers, refused, OneOf}
-use Rattle.chart.specs.Chart.{chartOf}
-use Rattle.chart.proofs.Refusals.{chart-refused, chart-status-one}
-use Rattle.chart.specs.Demand.{chartStatuses}
-use Rattle.picker.specs.ImagePick.{imagePickOf}
-use Rattle.picker.specs.PlanePick.{planePickOf}
-use Rattle.picker.proofs.Refusals.{image-pick-refused, image-pick-status-one, plane-pick-refused, plane-pick-status-one}
-use Rattle.picker.specs.Demand.{imageStatuses, planeStatuses}
-use Rattle.round_fallback.specs.Cylinder.{cylinderPointOf}
-use Rattle.steps.specs.Direction.{directionOf}
-use Rattle.steps.specs.Placed.{placedOf}
-use Rattle.steps.specs.Sample.{sampleParameterOf}
-use Rattle.vertex_fallback.specs.Vertices.{pointOnOf}
-use Rattle.steps.proofs.Refusals.{sample-parameter-refused, sample-parameter-status, direction-refused, direction-status, placed-refused, placed-status}
-use Rattle.vertex_fallback.proofs.Refusals.{point-on-refused, point-on-status}
-use Rattle.round_fallback.proofs.Refusals.{cylinder-refused, cylinder-status}
-use Rattle.triangle.specs.Lists.{triangleListsOf}
-use Rattle.triangle.proofs.ListRefusals.{triangle-lists-refused, triangle-lists-status}
-use Rattle.capi.specs.Convention.{seen, seenOf, chartSeen}
+use Rattle.chart.specs.Chart.{chart_of}
+use Rattle.chart.proofs.Refusals.{chart_refused, chart_status_one}
+use Rattle.chart.specs.Demand.{chart_statuses}
+use Rattle.picker.specs.ImagePick.{image_pick_of}
+use Rattle.picker.specs.PlanePick.{plane_pick_of}
+use Rattle.picker.proofs.Refusals.{image_pick_refused, image_pick_status_one, plane_pick_refused, plane_pick_status_one}
+use Rattle.picker.specs.Demand.{image_statuses, plane_statuses}
+use Rattle.round_fallback.specs.Cylinder.{cylinder_point_of}
+use Rattle.steps.specs.Direction.{direction_of}
+use Rattle.steps.specs.Placed.{placed_of}
+use Rattle.steps.specs.Sample.{sample_parameter_of}
+use Rattle.vertex_fallback.specs.Vertices.{point_on_of}
+use Rattle.steps.proofs.Refusals.{sample_parameter_refused, sample_parameter_status, direction_refused, direction_status, placed_refused, placed_status}
+use Rattle.vertex_fallback.proofs.Refusals.{point_on_refused, point_on_status}
+use Rattle.round_fallback.proofs.Refusals.{cylinder_refused, cylinder_status}
+use Rattle.triangle.specs.Lists.{triangle_lists_of}
+use Rattle.triangle.proofs.ListRefusals.{triangle_lists_refused, triangle_lists_status}
+use Rattle.capi.specs.Convention.{seen, seen_of, chart_seen}
 use Rattle.capi.specs.Demand.{Demand1}
 use Rattle.answers.specs.Returned.{returned, zeros}
-use Rattle.answers.proofs.Returning.{other-length, status-is, zeros-beside}
-use Rattle.capi.proofs.Five.{chart-other-length}
+use Rattle.answers.proofs.Returning.{other_length, status_is, zeros_beside}
+use Rattle.capi.proofs.Five.{chart_other_length}
 
 -- ---- the chart
 
 module _ (sheet : List ℕ) (phase : ℕ) (points result : List Float) where
   -- a result list of another length gives 1, and leaves everything
-  pub chart-call-other-length : (length result ≡ 5 → ⊥) → chartSeen sheet phase points result ≡ seen (returned 1 result) points
-  unfolding chartSeen
-  chart-call-other-length h = sym (chart-other-length (chartOf sheet phase points) points result h)
+  pub chart_call_other_length : (length result ≡ 5 → ⊥) → chart_seen sheet phase points result ≡ seen (returned 1 result) points
+  unfolding chart_seen
+  chart_call_other_length h = sym (chart_other_length (chart_of sheet phase points) points result h)
 
   module _ (h : length result ≡ 5) where
-    chart-status : (chartSeen sheet phase points result).returns.status ≡ (chartOf sheet phase points).numbers.status
-    unfolding chartSeen seenOf
-    chart-status = status-is (chartOf sheet phase points).numbers result h
+    chart_status : (chart_seen sheet phase points result).returns.status ≡ (chart_of sheet phase points).numbers.status
+    unfolding chart_seen seen_of
+    chart_status = status_is (chart_of sheet phase points).numbers result h
 
-    chart-points : (chartSeen sheet phase points result).points ≡ (chartOf sheet phase points).points
-    unfolding chartSeen seenOf
-    chart-points = ap (λ (b : Bool). cond b (chartOf sheet phase points).points points) (eq-eqb _ _ h)
+    chart_points : (chart_seen sheet phase points result).points ≡ (chart_of sheet phase points).points
+    unfolding chart_seen seen_of
+    chart_points = ap (λ (b : Bool). cond b (chart_of sheet phase points).points points) (eq-eqb _ _ h)
 
     -- a status other than 0 has five zeros beside it, and the list is as at entry
-    pub chart-call-refused : ((chartSeen sheet phase points result).returns.status ≡ 0 → ⊥) → ((chartSeen sheet phase points result).returns.result ≡ zeros) × ((chartSeen sheet phase points result).points ≡ points)
-    unfolding chartSeen seenOf
-    chart-call-refused n =
-        let r = chart-refused sheet phase points (λ e. n (chart-status ∙ e)) in
-        (zeros-beside (chartOf sheet phase points).numbers result h r.0, chart-points ∙ r.1)
+    pub chart_call_refused : ((chart_seen sheet phase points result).returns.status ≡ 0 → ⊥) → ((chart_seen sheet phase points result).returns.result ≡ zeros) × ((chart_seen sheet phase points result).points ≡ points)
+    unfolding chart_seen seen_of
+    chart_call_refused n =
+        let r = chart_refused sheet phase points (λ e. n (chart_status ∙ e)) in
+        (zeros_beside (chart_of sheet phase points).numbers result h r.0, chart_points ∙ r.1)
 
     -- a number of the table, or 0 for a point
-    pub chart-call-status : OneOf chartStatuses (chartSeen sheet phase points result).returns.status
-    chart-call-status = subst (OneOf chartStatuses) (sym chart-status) (chart-status-one sheet phase points)
+    pub chart_call_status : OneOf chart_statuses (chart_seen sheet phase points result).returns.status
+    chart_call_status = subst (OneOf chart_statuses) (sym chart_status) (chart_status_one sheet phase points)
 
 -- ---- the other calls, each lent nothing to write
 
-demand-1 : (n : Numbers) (table : List ℕ) → ((n.status ≡ 0 → ⊥) → n ≡ refused n.status) → OneOf table n.status → Demand1 n table
-demand-1 n table r l =
+demand_1 : (n : Numbers) (table : List ℕ) → ((n.status ≡ 0 → ⊥) → n ≡ refused n.status) → OneOf table n.status → Demand1 n table
+demand_1 n table r l =
     record {
-      unwritten = λ result h. sym (other-length n result h);
-      zeroed = λ result h k. zeros-beside n result h (r (λ e. k (status-is n result h ∙ e)));
-      numbered = λ result h. subst (OneOf table) (sym (status-is n result h)) l;
+      unwritten = λ result h. sym (other_length n result h);
+      zeroed = λ result h k. zeros_beside n result h (r (λ e. k (status_is n result h ∙ e)));
+      numbered = λ result h. subst (OneOf table) (sym (status_is n result h)) l;
     }
 
-pub image-pick-demand-1 : (sheet : List ℕ) (phase : ℕ) (images : List Float) → Demand1 (imagePickOf sheet phase images) imageStatuses
-image-pick-demand-1 sheet phase images = demand-1 (imagePickOf sheet phase images) imageStatuses (image-pick-refused sheet phase images) (image-pick-status-one sheet phase images)
+pub image_pick_demand_1 : (sheet : List ℕ) (phase : ℕ) (images : List Float) → Demand1 (image_pick_of sheet phase images) image_statuses
+image_pick_demand_1 sheet phase images = demand_1 (image_pick_of sheet phase images) image_statuses (image_pick_refused sheet phase images) (image_pick_status_one sheet phase images)
 
-pub plane-pick-demand-1 : (sheet : List ℕ) → Demand1 (planePickOf sheet) planeStatuses
-plane-pick-demand-1 sheet = demand-1 (planePickOf sheet) planeStatuses (plane-pick-refused sheet) (plane-pick-status-one sheet)
+pub plane_pick_demand_1 : (sheet : List ℕ) → Demand1 (plane_pick_of sheet) plane_statuses
+plane_pick_demand_1 sheet = demand_1 (plane_pick_of sheet) plane_statuses (plane_pick_refused sheet) (plane_pick_status_one sheet)
 
-pub sample-parameter-demand-1 : (a b : Float) (n : ℕ) → Demand1 (sampleParameterOf a b n) (0 ∷ 16 ∷ [])
-sample-parameter-demand-1 a b n = demand-1 (sampleParameterOf a b n) (0 ∷ 16 ∷ []) (sample-parameter-refused a b n) (sample-parameter-status a b n)
+pub sample_parameter_demand_1 : (a b : Float) (n : ℕ) → Demand1 (sample_parameter_of a b n) (0 ∷ 16 ∷ [])
+sample_parameter_demand_1 a b n = demand_1 (sample_parameter_of a b n) (0 ∷ 16 ∷ []) (sample_parameter_refused a b n) (sample_parameter_status a b n)
 
-pub direction-demand-1 : (points : List Float) → Demand1 (directionOf points) (0 ∷ 16 ∷ [])
-direction-demand-1 points = demand-1 (directionOf points) (0 ∷ 16 ∷ []) (direction-refused points) (direction-status points)
+pub direction_demand_1 : (points : List Float) → Demand1 (direction_of points) (0 ∷ 16 ∷ [])
+direction_demand_1 points = demand_1 (direction_of points) (0 ∷ 16 ∷ []) (direction_refused points) (direction_status points)
 
-pub triangle-demand-1 : (centre : List Float) (radius : Float) (sense : ℕ) (sides : List Float) → Demand1 (triangleListsOf centre radius sense sides) (0 ∷ 16 ∷ 17 ∷ 18 ∷ 19 ∷ [])
-triangle-demand-1 centre radius sense sides = demand-1 (triangleListsOf centre radius sense sides) (0 ∷ 16 ∷ 17 ∷ 18 ∷ 19 ∷ []) (triangle-lists-refused centre radius sense sides) (triangle-lists-status centre radius sense sides)
+pub triangle_demand_1 : (centre : List Float) (radius : Float) (sense : ℕ) (sides : List Float) → Demand1 (triangle_lists_of centre radius sense sides) (0 ∷ 16 ∷ 17 ∷ 18 ∷ 19 ∷ [])
+triangle_demand_1 centre radius sense sides = demand_1 (triangle_lists_of centre radius sense sides) (0 ∷ 16 ∷ 17 ∷ 18 ∷ 19 ∷ []) (triangle_lists_refused centre radius sense sides) (triangle_lists_status centre radius sense sides)
 
-pub point-on-demand-1 : (uAxis normal corners : List Float) → Demand1 (pointOnOf uAxis normal corners) (0 ∷ 16 ∷ 20 ∷ 21 ∷ [])
-point-on-demand-1 uAxis normal corners = demand-1 (pointOnOf uAxis normal corners) (0 ∷ 16 ∷ 20 ∷ 21 ∷ []) (point-on-refused uAxis normal corners) (point-on-status uAxis normal corners)
+pub point_on_demand_1 : (u_axis normal corners : List Float) → Demand1 (point_on_of u_axis normal corners) (0 ∷ 16 ∷ 20 ∷ 21 ∷ [])
+point_on_demand_1 u_axis normal corners = demand_1 (point_on_of u_axis normal corners) (0 ∷ 16 ∷ 20 ∷ 21 ∷ []) (point_on_refused u_axis normal corners) (point_on_status u_axis normal corners)
 
-pub cylinder-point-demand-1 : (heights angles : List Float) → Demand1 (cylinderPointOf heights angles) (0 ∷ 16 ∷ 22 ∷ 23 ∷ [])
-cylinder-point-demand-1 heights angles = demand-1 (cylinderPointOf heights angles) (0 ∷ 16 ∷ 22 ∷ 23 ∷ []) (cylinder-refused heights angles) (cylinder-status heights angles)
+pub cylinder_point_demand_1 : (heights angles : List Float) → Demand1 (cylinder_point_of heights angles) (0 ∷ 16 ∷ 22 ∷ 23 ∷ [])
+cylinder_point_demand_1 heights angles = demand_1 (cylinder_point_of heights angles) (0 ∷ 16 ∷ 22 ∷ 23 ∷ []) (cylinder_refused heights angles) (cylinder_status heights angles)
 
-pub placed-demand-1 : (transform point : List Float) → Demand1 (placedOf transform point) (0 ∷ 16 ∷ 24 ∷ [])
-placed-demand-1 transform point = demand-1 (placedOf transform point) (0 ∷ 16 ∷ 24 ∷ []) (placed-refused transform point) (placed-status transform point)
+pub placed_demand_1 : (transform point : List Float) → Demand1 (placed_of transform point) (0 ∷ 16 ∷ 24 ∷ [])
+placed_demand_1 transform point = demand_1 (placed_of transform point) (0 ∷ 16 ∷ 24 ∷ []) (placed_refused transform point) (placed_status transform point)

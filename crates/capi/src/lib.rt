@@ -5,16 +5,16 @@
 #![tactic(auto)]
 
 ghost use Rattle.std.specs.Prelude.{◌≡◌};
-ghost use Rattle.answers.specs.Returned.{returned, returnedOf};
-ghost use Rattle.leaves.specs.Root.{rootOf};
-ghost use Rattle.leaves.specs.Round.{roundOf};
-ghost use Rattle.round_fallback.specs.Cylinder.{cylinderPointOf};
-ghost use Rattle.steps.specs.Direction.{directionOf};
-ghost use Rattle.steps.specs.Placed.{placedOf};
-ghost use Rattle.steps.specs.Sample.{sampleParameterOf};
-ghost use Rattle.vertex_fallback.specs.Vertices.{pointOnOf};
-ghost use Rattle.triangle.specs.Lists.{triangleListsOf};
-ghost use Rattle.capi.specs.Convention.{seen, chartSeen, imagePickReturned, planePickReturned};
+ghost use Rattle.answers.specs.Returned.{returned, returned_of};
+ghost use Rattle.leaves.specs.Root.{root_of};
+ghost use Rattle.leaves.specs.Round.{round_of};
+ghost use Rattle.round_fallback.specs.Cylinder.{cylinder_point_of};
+ghost use Rattle.steps.specs.Direction.{direction_of};
+ghost use Rattle.steps.specs.Placed.{placed_of};
+ghost use Rattle.steps.specs.Sample.{sample_parameter_of};
+ghost use Rattle.vertex_fallback.specs.Vertices.{point_on_of};
+ghost use Rattle.triangle.specs.Lists.{triangle_lists_of};
+ghost use Rattle.capi.specs.Convention.{seen, chart_seen, image_pick_returned, plane_pick_returned};
 
 use answers::{RESULT_LENGTH, of_direction, of_middle, of_parameter, of_position, put};
 
@@ -26,7 +26,7 @@ pub extern "C" fn facepoint_chart(
     points: &mut [f64],
     list: &mut [f64],
 ) -> u32
-    ensures { seen (returned result list.new) points.new ≡ chartSeen sheet.now phase points.old list.old }
+    ensures { seen (returned result list.new) points.new ≡ chart_seen sheet.now phase points.old list.old }
 {
     if list.len() != RESULT_LENGTH {
         return 1;
@@ -42,7 +42,7 @@ pub extern "C" fn facepoint_image_pick(
     images: &[f64],
     list: &mut [f64],
 ) -> u32
-    ensures { returned result list.new ≡ imagePickReturned sheet.now phase images.now list.old }
+    ensures { returned result list.new ≡ image_pick_returned sheet.now phase images.now list.old }
 {
     put(picker::image_pick(sheet, phase, images), list)
 }
@@ -50,7 +50,7 @@ pub extern "C" fn facepoint_image_pick(
 // The plane pick: the status returned, the five numbers in `list`.
 #[unsafe(no_mangle)]
 pub extern "C" fn facepoint_plane_pick(sheet: &[u8], list: &mut [f64]) -> u32
-    ensures { returned result list.new ≡ planePickReturned sheet.now list.old }
+    ensures { returned result list.new ≡ plane_pick_returned sheet.now list.old }
 {
     put(picker::plane_pick(sheet), list)
 }
@@ -58,7 +58,7 @@ pub extern "C" fn facepoint_plane_pick(sheet: &[u8], list: &mut [f64]) -> u32
 // A curve's nth parameter of 0 to 16 between a and b: the parameter.
 #[unsafe(no_mangle)]
 pub extern "C" fn facepoint_sample_parameter(a: f64, b: f64, n: u32, list: &mut [f64]) -> u32
-    ensures { returned result list.new ≡ returnedOf (sampleParameterOf a b n) list.old }
+    ensures { returned result list.new ≡ returned_of (sample_parameter_of a b n) list.old }
 {
     put(of_parameter(steps::sample_parameter(a, b, n)), list)
 }
@@ -66,7 +66,7 @@ pub extern "C" fn facepoint_sample_parameter(a: f64, b: f64, n: u32, list: &mut 
 // The direction test of twelve numbers, first image, last image, start, end: reverse, keep.
 #[unsafe(no_mangle)]
 pub extern "C" fn facepoint_direction(points: &[f64], list: &mut [f64]) -> u32
-    ensures { returned result list.new ≡ returnedOf (directionOf points.now) list.old }
+    ensures { returned result list.new ≡ returned_of (direction_of points.now) list.old }
 {
     put(of_direction(steps::edge_direction(points)), list)
 }
@@ -80,7 +80,7 @@ pub extern "C" fn facepoint_spherical_triangle(
     sides: &[f64],
     list: &mut [f64],
 ) -> u32
-    ensures { returned result list.new ≡ returnedOf (triangleListsOf centre.now radius sense sides.now) list.old }
+    ensures { returned result list.new ≡ returned_of (triangle_lists_of centre.now radius sense sides.now) list.old }
 {
     put(
         of_position(triangle::spherical_triangle_of(centre, radius, sense, sides)),
@@ -96,7 +96,7 @@ pub extern "C" fn facepoint_point_on(
     corners: &[f64],
     list: &mut [f64],
 ) -> u32
-    ensures { returned result list.new ≡ returnedOf (pointOnOf u_axis.now normal.now corners.now) list.old }
+    ensures { returned result list.new ≡ returned_of (point_on_of u_axis.now normal.now corners.now) list.old }
 {
     put(
         of_position(vertex_fallback::point_on(u_axis, normal, corners)),
@@ -107,7 +107,7 @@ pub extern "C" fn facepoint_point_on(
 // The round fallback: the middle angle, the middle height.
 #[unsafe(no_mangle)]
 pub extern "C" fn facepoint_cylinder_point(heights: &[f64], angles: &[f64], list: &mut [f64]) -> u32
-    ensures { returned result list.new ≡ returnedOf (cylinderPointOf heights.now angles.now) list.old }
+    ensures { returned result list.new ≡ returned_of (cylinder_point_of heights.now angles.now) list.old }
 {
     put(
         of_middle(round_fallback::cylinder_point(heights, angles)),
@@ -118,7 +118,7 @@ pub extern "C" fn facepoint_cylinder_point(heights: &[f64], angles: &[f64], list
 // A point by a transform of twelve numbers, row by row: x, y, z.
 #[unsafe(no_mangle)]
 pub extern "C" fn facepoint_placed(transform: &[f64], point: &[f64], list: &mut [f64]) -> u32
-    ensures { returned result list.new ≡ returnedOf (placedOf transform.now point.now) list.old }
+    ensures { returned result list.new ≡ returned_of (placed_of transform.now point.now) list.old }
 {
     put(of_position(steps::placed(transform, point)), list)
 }
@@ -126,7 +126,7 @@ pub extern "C" fn facepoint_placed(transform: &[f64], point: &[f64], list: &mut 
 // The IEEE 754 square root: double facepoint_root(double).
 #[unsafe(no_mangle)]
 pub extern "C" fn facepoint_root(x: f64) -> f64
-    ensures { result ≡ rootOf x }
+    ensures { result ≡ root_of x }
 {
     leaves::root(x)
 }
@@ -134,7 +134,7 @@ pub extern "C" fn facepoint_root(x: f64) -> f64
 // The nearest whole number, halves away from zero: double facepoint_round(double).
 #[unsafe(no_mangle)]
 pub extern "C" fn facepoint_round(x: f64) -> f64
-    ensures { result ≡ roundOf x }
+    ensures { result ≡ round_of x }
 {
     leaves::round(x)
 }

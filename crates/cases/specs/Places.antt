@@ -13,9 +13,9 @@ unfoldable pub shown : Float → ℕ → Bool
 shown x bits = not (is_nan x) && eqb (to_bits binary64 x) bits
 
 -- how many of xs, the places from k on, are not shown by the eight bytes of s that stand for their place
-unfoldable pub wrongFrom : ℕ → List Float → List ℕ → ℕ
-wrongFrom k [] s = 0
-wrongFrom k (x ∷ xs) s = cond (shown x (big s (8 * k) 8)) 0 1 + wrongFrom (suc k) xs s
+unfoldable pub wrong_from : ℕ → List Float → List ℕ → ℕ
+wrong_from k [] s = 0
+wrong_from k (x ∷ xs) s = cond (shown x (big s (8 * k) 8)) 0 1 + wrong_from (suc k) xs s
 
 -- the sum of each number's bits times its weight: that of the first is w, and each that follows weighs two more
 unfoldable pub weighted : ℕ → List Float → ℕ

@@ -1,7 +1,7 @@
 // The list that a call is lent.
 ghost use Rattle.std.specs.Prelude.{◌≡◌, ◌%◌, ◌^◌, length, replicate, from_bits};
 ghost use Rattle.std.specs.Float.{binary64};
-ghost use Rattle.cases.specs.Places.{loaded, shown, wrongFrom, weighted};
+ghost use Rattle.cases.specs.Places.{loaded, shown, wrong_from, weighted};
 
 use crate::big_endian::u64_at;
 use std::num::wrapping_add_u64;
@@ -52,7 +52,7 @@ pub fn is_shown(x: f64, bits: u64) -> bool
 
 // How many places of the list do not hold the number that stands for them in `numbers`, eight bytes each.
 pub fn wrong_places(list: &[f64], numbers: &[u8]) -> u64
-    ensures { result ≡ wrongFrom 0 list.now numbers.now }
+    ensures { result ≡ wrong_from 0 list.now numbers.now }
 {
     let mut wrong: u64 = 0;
     let mut k = 0;

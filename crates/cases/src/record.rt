@@ -1,6 +1,6 @@
 // What a recorded call begins with, and the longest that there is.
 ghost use Rattle.std.specs.Prelude.{◌≡◌};
-ghost use Rattle.cases.specs.Record.{headOf};
+ghost use Rattle.cases.specs.Record.{head_of};
 
 use crate::big_endian::u32_at;
 
@@ -21,7 +21,7 @@ pub enum Head {
 
 // The head in these bytes, which are what a file still had of it.
 pub fn head_of(s: &[u8]) -> Head
-    ensures { result ≡ headOf s.now }
+    ensures { result ≡ head_of s.now }
 {
     if s.len() == 0 {
         return Head::Ended;

@@ -9,122 +9,122 @@ use lib.Dec.{eqb}
 use lib.Ieee.{Float}
 use lib.ListN.{length, length-map}
 use borrow.Author.Tests.{ltb-false, lt-ltb, le-ltb, ne_eqb, eq-eqb}
-use Rattle.answers.specs.Answers.{paper, isPoint}
+use Rattle.answers.specs.Answers.{paper, is_point}
 use Rattle.answers.specs.Lists.{over}
 use Rattle.answers.specs.Outcome.{Check, check, first, settled}
 use Rattle.answers.specs.declared.outcomes.Answer.{Answer}
 use Rattle.answers.specs.declared.outcomes.Answer.TheVariants.{Refused}
-use Rattle.answers.proofs.FirstCheck.{Numbered, none-fails, first-passed, first-refused, first-here, first-later, append-none}
-use Rattle.answers.proofs.Over.{over-room}
-use Rattle.answers.proofs.Papers.{paper-refused, refused-no-point}
-use Rattle.answers.proofs.Settled.{settled-none, settled-refused}
-use Rattle.sheet.specs.Checks.{layoutChecks, contentChecks}
+use Rattle.answers.proofs.FirstCheck.{Numbered, none_fails, first_passed, first_refused, first_here, first_later, append_none}
+use Rattle.answers.proofs.Over.{over_room}
+use Rattle.answers.proofs.Papers.{paper_refused, refused_no_point}
+use Rattle.answers.proofs.Settled.{settled_none, settled_refused}
+use Rattle.sheet.specs.Checks.{layout_checks, content_checks}
 use Rattle.sheet.specs.Content.{Point, pairs, flat}
-use Rattle.sheet.specs.Layout.{sheetOf}
-use Rattle.sheet.proofs.Checked.{sheet-numbered}
-use Rattle.points.specs.Written.{written, writtenPoint}
-use Rattle.points.proofs.Flat.{pairs-flat, length-flat}
-use Rattle.frame.specs.Framing.{movedRings, frame, pointCount, phaseWrong}
-use Rattle.frame.specs.Seam.{fitting, phaseChecks}
+use Rattle.sheet.specs.Layout.{sheet_of}
+use Rattle.sheet.proofs.Checked.{sheet_numbered}
+use Rattle.points.specs.Written.{written, written_point}
+use Rattle.points.proofs.Flat.{pairs_flat, length_flat}
+use Rattle.frame.specs.Framing.{moved_rings, frame, point_count, phase_wrong}
+use Rattle.frame.specs.Seam.{fitting, phase_checks}
 use Rattle.frame.specs.declared.framing.Frame.{Frame}
-use Rattle.frame.proofs.LaidOut.{is-fitting}
-use Rattle.frame.proofs.SheetFrame.{numbers-count, points-most, sheet-moved}
+use Rattle.frame.proofs.LaidOut.{is_fitting}
+use Rattle.frame.proofs.SheetFrame.{numbers_count, points_most, sheet_moved}
 use Rattle.search.specs.declared.candidate.Candidate.{Candidate}
-use Rattle.chart.specs.Chart.{answered, charted, chartOf, chartChecks, frameChecks, chosen, roomWrong}
+use Rattle.chart.specs.Chart.{answered, charted, chart_of, chart_checks, frame_checks, chosen, room_wrong}
 use Rattle.chart.specs.Stages.{Passed}
-use Rattle.chart.proofs.Outcomes.{chart-numbers, chart-points, writtenOver}
+use Rattle.chart.proofs.Outcomes.{chart_numbers, chart_points, written_over}
 
 -- ---- the rows down to 8
 
-pub phase-rows : (s : List ℕ) (phase : ℕ) → phaseChecks s phase ≡ layoutChecks s ++ contentChecks (sheetOf s) ++ check 8 (phaseWrong (sheetOf s) phase) ∷ []
-unfolding phaseChecks
-phase-rows s phase = refl
+pub phase_rows : (s : List ℕ) (phase : ℕ) → phase_checks s phase ≡ layout_checks s ++ content_checks (sheet_of s) ++ check 8 (phase_wrong (sheet_of s) phase) ∷ []
+unfolding phase_checks
+phase_rows s phase = refl
 
-pub phase-numbered : (s : List ℕ) (phase : ℕ) → Numbered (phaseChecks s phase)
-phase-numbered s phase = unfold phaseChecks layoutChecks contentChecks in omega arith
+pub phase_numbered : (s : List ℕ) (phase : ℕ) → Numbered (phase_checks s phase)
+phase_numbered s phase = unfold phase_checks layout_checks content_checks in omega arith
 
 -- what passes them
-pub reads-of : (s : List ℕ) (phase : ℕ) → first (phaseChecks s phase) ≡ 0 → first (layoutChecks s ++ contentChecks (sheetOf s)) ≡ 0
-unfolding phaseChecks
-reads-of s phase e = (append-none (layoutChecks s ++ contentChecks (sheetOf s)) (check 8 (phaseWrong (sheetOf s) phase) ∷ []) (sheet-numbered s) e).0
+pub reads_of : (s : List ℕ) (phase : ℕ) → first (phase_checks s phase) ≡ 0 → first (layout_checks s ++ content_checks (sheet_of s)) ≡ 0
+unfolding phase_checks
+reads_of s phase e = (append_none (layout_checks s ++ content_checks (sheet_of s)) (check 8 (phase_wrong (sheet_of s) phase) ∷ []) (sheet_numbered s) e).0
 
-pub phase-of : (s : List ℕ) (phase : ℕ) → first (phaseChecks s phase) ≡ 0 → phaseWrong (sheetOf s) phase ≡ false
-unfolding phaseChecks
-phase-of s phase e =
-    let row = check 8 (phaseWrong (sheetOf s) phase) ∷ [] in
-    (none-fails row (omega arith) (append-none (layoutChecks s ++ contentChecks (sheetOf s)) row (sheet-numbered s) e).1).0
+pub phase_of : (s : List ℕ) (phase : ℕ) → first (phase_checks s phase) ≡ 0 → phase_wrong (sheet_of s) phase ≡ false
+unfolding phase_checks
+phase_of s phase e =
+    let row = check 8 (phase_wrong (sheet_of s) phase) ∷ [] in
+    (none_fails row (omega arith) (append_none (layout_checks s ++ content_checks (sheet_of s)) row (sheet_numbered s) e).1).0
 
 -- ---- a call that a check refuses
 
 module _ (s : List ℕ) (phase : ℕ) (out : List Float) where
   -- the answer is the call's, and it is one just where its status is 0
   abbrev pub Called : Answer → List Float → Type 0
-  Called r after = (charted (paper r) after ≡ chartOf s phase out) × (isPoint r ≡ eqb (paper r).status 0)
+  Called r after = (charted (paper r) after ≡ chart_of s phase out) × (is_point r ≡ eqb (paper r).status 0)
 
-  refused-by : (n : ℕ) → first (chartChecks s phase (length out)) ≡ n → (n ≡ 0 → ⊥) → Called (Refused n) out
-  refused-by n e h =
-      let answer = answered (frame (sheetOf s) phase) phase (chosen (sheetOf s) phase) in (
+  refused_by : (n : ℕ) → first (chart_checks s phase (length out)) ≡ n → (n ≡ 0 → ⊥) → Called (Refused n) out
+  refused_by n e h =
+      let answer = answered (frame (sheet_of s) phase) phase (chosen (sheet_of s) phase) in (
         ap₂ charted
-            (paper-refused n ∙ sym (chart-numbers s phase out ∙ ap (λ (r : ℕ). settled r answer) e ∙ settled-refused n answer h))
-            (sym (chart-points s phase out ∙ ap (λ (b : Bool). cond b (writtenOver s phase out (sheetOf s)) out) (ap (λ (r : ℕ). eqb r 0) e ∙ ne_eqb n 0 h))),
-        refused-no-point n h,
+            (paper_refused n ∙ sym (chart_numbers s phase out ∙ ap (λ (r : ℕ). settled r answer) e ∙ settled_refused n answer h))
+            (sym (chart_points s phase out ∙ ap (λ (b : Bool). cond b (written_over s phase out (sheet_of s)) out) (ap (λ (r : ℕ). eqb r 0) e ∙ ne_eqb n 0 h))),
+        refused_no_point n h,
       )
 
   -- the rows behind 8
   abbrev later : List Check
-  later = check 9 (roomWrong (sheetOf s) (length out)) ∷ frameChecks (sheetOf s) phase
+  later = check 9 (room_wrong (sheet_of s) (length out)) ∷ frame_checks (sheet_of s) phase
 
-  checks-are : chartChecks s phase (length out) ≡ phaseChecks s phase ++ later
-  unfolding chartChecks phaseChecks
-  checks-are = sym (append_assoc (layoutChecks s ++ contentChecks (sheetOf s)) (check 8 (phaseWrong (sheetOf s) phase) ∷ []) later)
+  checks_are : chart_checks s phase (length out) ≡ phase_checks s phase ++ later
+  unfolding chart_checks phase_checks
+  checks_are = sym (append_assoc (layout_checks s ++ content_checks (sheet_of s)) (check 8 (phase_wrong (sheet_of s) phase) ∷ []) later)
 
-  pub call-unread : (n : ℕ) → n ≡ first (phaseChecks s phase) → (n ≡ 0 → ⊥) → Called (Refused n) out
-  call-unread n e h = refused-by n (ap first checks-are ∙ first-refused (phaseChecks s phase) later (λ z. h (e ∙ z)) ∙ sym e) h
+  pub call_unread : (n : ℕ) → n ≡ first (phase_checks s phase) → (n ≡ 0 → ⊥) → Called (Refused n) out
+  call_unread n e h = refused_by n (ap first checks_are ∙ first_refused (phase_checks s phase) later (λ z. h (e ∙ z)) ∙ sym e) h
 
-  module _ (passes : first (phaseChecks s phase) ≡ 0) where
-    past-phase : first (chartChecks s phase (length out)) ≡ first later
-    past-phase = ap first checks-are ∙ first-passed (phaseChecks s phase) later (phase-numbered s phase) passes
+  module _ (passes : first (phase_checks s phase) ≡ 0) where
+    past_phase : first (chart_checks s phase (length out)) ≡ first later
+    past_phase = ap first checks_are ∙ first_passed (phase_checks s phase) later (phase_numbered s phase) passes
 
-    pub call-no-room : length out < 2 * pointCount (sheetOf s) → Called (Refused 9) out
-    unfolding roomWrong
-    call-no-room h = refused-by 9 (past-phase ∙ first-here (check 9 (roomWrong (sheetOf s) (length out))) (frameChecks (sheetOf s) phase) (lt-ltb _ _ h)) (λ z. omega (arith, z))
+    pub call_no_room : length out < 2 * point_count (sheet_of s) → Called (Refused 9) out
+    unfolding room_wrong
+    call_no_room h = refused_by 9 (past_phase ∙ first_here (check 9 (room_wrong (sheet_of s) (length out))) (frame_checks (sheet_of s) phase) (lt-ltb _ _ h)) (λ z. omega (arith, z))
 
-    pub call-passes : 2 * pointCount (sheetOf s) ≤ length out → Passed s phase out
-    unfolding roomWrong
-    call-passes h = record { passes = passes; roomRight = le-ltb _ _ h }
+    pub call_passes : 2 * point_count (sheet_of s) ≤ length out → Passed s phase out
+    unfolding room_wrong
+    call_passes h = record { passes = passes; room_right = le-ltb _ _ h }
 
 -- ---- a sheet that reads
 
 -- lists for just its points and rings
-pub fits-of : (s : List ℕ) (n m : ℕ) → first (layoutChecks s ++ contentChecks (sheetOf s)) ≡ 0 → n ≡ 2 * pointCount (sheetOf s) → m ≡ length (sheetOf s).rings → fitting (sheetOf s) n m ≡ true
-fits-of s n m reads p q = is-fitting (sheetOf s) n m p q (omega (arith, points-most s reads))
+pub fits_of : (s : List ℕ) (n m : ℕ) → first (layout_checks s ++ content_checks (sheet_of s)) ≡ 0 → n ≡ 2 * point_count (sheet_of s) → m ≡ length (sheet_of s).rings → fitting (sheet_of s) n m ≡ true
+fits_of s n m reads p q = is_fitting (sheet_of s) n m p q (omega (arith, points_most s reads))
 
 -- ---- a call that passes the checks down to 9
 
 module _ {s : List ℕ} {phase : ℕ} {out : List Float} (p : Passed s phase out) where
-  left : first (chartChecks s phase (length out)) ≡ first (frameChecks (sheetOf s) phase)
-  left = past-phase s phase out p.passes ∙ first-later (check 9 (roomWrong (sheetOf s) (length out))) (frameChecks (sheetOf s) phase) p.roomRight
+  left : first (chart_checks s phase (length out)) ≡ first (frame_checks (sheet_of s) phase)
+  left = past_phase s phase out p.passes ∙ first_later (check 9 (room_wrong (sheet_of s) (length out))) (frame_checks (sheet_of s) phase) p.room_right
 
-  pub call-refused : (n : ℕ) → n ≡ first (frameChecks (sheetOf s) phase) → (n ≡ 0 → ⊥) → Called s phase out (Refused n) out
-  call-refused n e h = refused-by s phase out n (left ∙ sym e) h
+  pub call_refused : (n : ℕ) → n ≡ first (frame_checks (sheet_of s) phase) → (n ≡ 0 → ⊥) → Called s phase out (Refused n) out
+  call_refused n e h = refused_by s phase out n (left ∙ sym e) h
 
-  module _ (passes : first (frameChecks (sheetOf s) phase) ≡ 0) where
-    none : first (chartChecks s phase (length out)) ≡ 0
+  module _ (passes : first (frame_checks (sheet_of s) phase) ≡ 0) where
+    none : first (chart_checks s phase (length out)) ≡ 0
     none = left ∙ passes
 
     -- the points that are written
-    written-is : {xs : List Float} → xs ≡ flat (flatten (movedRings (sheetOf s) phase)) → over (flat (map (writtenPoint phase) (pairs xs))) out ≡ writtenOver s phase out (sheetOf s)
-    unfolding written roomWrong
-    written-is {xs} x =
-        let rings = movedRings (sheetOf s) phase in
-        let w = flat (map (writtenPoint phase) (flatten rings)) in
-        let points : flat (map (writtenPoint phase) (pairs xs)) ≡ w = ap (λ (ps : List Point). flat (map (writtenPoint phase) ps)) (ap pairs x ∙ pairs-flat (flatten rings)) in
-        let long : length w ≡ 2 * pointCount (sheetOf s) = length-flat (map (writtenPoint phase) (flatten rings)) ∙ ap (λ (n : ℕ). 2 * n) (length-map (flatten rings) (writtenPoint phase)) ∙ sym (length-flat (flatten rings)) ∙ ap (λ (rs : List (List Point)). length (flat (flatten rs))) (sheet-moved s phase) ∙ numbers-count s phase in
-        ap (λ (ys : List Float). over ys out) points ∙ over-room w out (omega (arith, long, ltb-false (length out) (2 * pointCount (sheetOf s)) p.roomRight))
+    written_is : {xs : List Float} → xs ≡ flat (flatten (moved_rings (sheet_of s) phase)) → over (flat (map (written_point phase) (pairs xs))) out ≡ written_over s phase out (sheet_of s)
+    unfolding written room_wrong
+    written_is {xs} x =
+        let rings = moved_rings (sheet_of s) phase in
+        let w = flat (map (written_point phase) (flatten rings)) in
+        let points : flat (map (written_point phase) (pairs xs)) ≡ w = ap (λ (ps : List Point). flat (map (written_point phase) ps)) (ap pairs x ∙ pairs_flat (flatten rings)) in
+        let long : length w ≡ 2 * point_count (sheet_of s) = length_flat (map (written_point phase) (flatten rings)) ∙ ap (λ (n : ℕ). 2 * n) (length-map (flatten rings) (written_point phase)) ∙ sym (length_flat (flatten rings)) ∙ ap (λ (rs : List (List Point)). length (flat (flatten rs))) (sheet_moved s phase) ∙ numbers_count s phase in
+        ap (λ (ys : List Float). over ys out) points ∙ over_room w out (omega (arith, long, ltb-false (length out) (2 * point_count (sheet_of s)) p.room_right))
 
-    pub call-answered : {xs after : List Float} (r : Answer) {f : Frame} {c : Candidate} → xs ≡ flat (flatten (movedRings (sheetOf s) phase)) → after ≡ over (flat (map (writtenPoint phase) (pairs xs))) out
-        → f ≡ frame (sheetOf s) phase → c ≡ chosen (sheetOf s) phase → paper r ≡ answered f phase c → charted (paper r) after ≡ chartOf s phase out
-    call-answered r x a e d q =
+    pub call_answered : {xs after : List Float} (r : Answer) {f : Frame} {c : Candidate} → xs ≡ flat (flatten (moved_rings (sheet_of s) phase)) → after ≡ over (flat (map (written_point phase) (pairs xs))) out
+        → f ≡ frame (sheet_of s) phase → c ≡ chosen (sheet_of s) phase → paper r ≡ answered f phase c → charted (paper r) after ≡ chart_of s phase out
+    call_answered r x a e d q =
         ap₂ charted
-        (q ∙ ap₂ (λ (f : Frame) (c : Candidate). answered f phase c) e d ∙ sym (chart-numbers s phase out ∙ settled-none (first (chartChecks s phase (length out))) (answered (frame (sheetOf s) phase) phase (chosen (sheetOf s) phase)) none))
-        (a ∙ written-is x ∙ sym (chart-points s phase out ∙ ap (λ (b : Bool). cond b (writtenOver s phase out (sheetOf s)) out) (eq-eqb _ 0 none)))
+        (q ∙ ap₂ (λ (f : Frame) (c : Candidate). answered f phase c) e d ∙ sym (chart_numbers s phase out ∙ settled_none (first (chart_checks s phase (length out))) (answered (frame (sheet_of s) phase) phase (chosen (sheet_of s) phase)) none))
+        (a ∙ written_is x ∙ sym (chart_points s phase out ∙ ap (λ (b : Bool). cond b (written_over s phase out (sheet_of s)) out) (eq-eqb _ 0 none)))

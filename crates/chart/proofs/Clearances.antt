@@ -8,24 +8,24 @@ use lib.Ieee.{inf, binary64, fits, is_nan}
 use lib.Ieee.Fits.{inf-fits}
 use Rattle.sheet.specs.Content.{Point}
 use Rattle.clearance.specs.Clearance.{distance}
-use Rattle.clearance.proofs.LeastDistance.{rings-held, rings-number, rings-perm}
-use Rattle.clearance.proofs.ByKeys.{distance-clear}
+use Rattle.clearance.proofs.LeastDistance.{rings_held, rings_number, rings_perm}
+use Rattle.clearance.proofs.ByKeys.{distance_clear}
 use Rattle.chart.specs.Chart.{clearance}
 use Rattle.frame.specs.declared.framing.Frame.{Frame}
 
-inf-number : T (not (is_nan (inf false)))
+inf_number : T (not (is_nan (inf false)))
 unfolding is_nan
-inf-number = tt
+inf_number = tt
 
 module _ (f : Frame) (rings : List (List Point)) (p : Point) where
-  pub clearance-held : T (fits binary64 (clearance f rings p))
+  pub clearance_held : T (fits binary64 (clearance f rings p))
   unfolding clearance
-  clearance-held = rings-held (distance f.periodic f.period p) (distance-clear f.periodic f.period p) rings (inf false) (inf-fits binary64 false)
+  clearance_held = rings_held (distance f.periodic f.period p) (distance_clear f.periodic f.period p) rings (inf false) (inf-fits binary64 false)
 
-  pub clearance-number : T (not (is_nan (clearance f rings p)))
+  pub clearance_number : T (not (is_nan (clearance f rings p)))
   unfolding clearance
-  clearance-number = rings-number (distance f.periodic f.period p) (distance-clear f.periodic f.period p) rings (inf false) inf-number
+  clearance_number = rings_number (distance f.periodic f.period p) (distance_clear f.periodic f.period p) rings (inf false) inf_number
 
-pub clearance-perm : (f : Frame) (p : Point) {rings rings' : List (List Point)} → Permᴰ rings rings' → clearance f rings p ≡ clearance f rings' p
+pub clearance_perm : (f : Frame) (p : Point) {rings rings' : List (List Point)} → Permᴰ rings rings' → clearance f rings p ≡ clearance f rings' p
 unfolding clearance
-clearance-perm f p d = rings-perm (distance f.periodic f.period p) (distance-clear f.periodic f.period p) d (inf false) (inf-fits binary64 false)
+clearance_perm f p d = rings_perm (distance f.periodic f.period p) (distance_clear f.periodic f.period p) d (inf false) (inf-fits binary64 false)

@@ -6,11 +6,11 @@ use mathlib.Core.Bool.{Bool}
 use mathlib.Core.List.{List}
 use Prim.Native.Nat.{ℕ}
 use Rattle.sheet.specs.Content.{Point}
-use Rattle.sheet.specs.Layout.{sheetOf}
+use Rattle.sheet.specs.Layout.{sheet_of}
 use Rattle.chart.specs.Chart.{normalised}
 use Rattle.frame.specs.Framing.{frame}
 use Rattle.chart.specs.Demand.{GroupsAdd}
-use Rattle.chart.proofs.Crossings.{crossings-add}
+use Rattle.chart.proofs.Crossings.{crossings_add}
 
-pub groups-add : (s : List ℕ) (phase : ℕ) (d : ℕ → Bool) (p : Point) → GroupsAdd (sheetOf s) phase d p
-groups-add s phase d p = crossings-add (frame (sheetOf s) phase) (normalised (sheetOf s) phase) d p
+pub groups_add : (s : List ℕ) (phase : ℕ) (d : ℕ → Bool) (p : Point) → GroupsAdd (sheet_of s) phase d p
+groups_add s phase d p = crossings_add (frame (sheet_of s) phase) (normalised (sheet_of s) phase) d p

@@ -7,26 +7,26 @@ use lib.Ieee.{Float}
 use lib.ListN.{length}
 use Rattle.sheet.specs.Content.{Point, pairs, flat}
 use Rattle.answers.specs.Lists.{over}
-use Rattle.answers.proofs.Over.{over-all}
-use Rattle.points.specs.Normalise.{normal as normalOf}
-use Rattle.frame.specs.Parts.{ringsFrom, Ascends, Packed}
+use Rattle.answers.proofs.Over.{over_all}
+use Rattle.points.specs.Normalise.{normal as normal_of}
+use Rattle.frame.specs.Parts.{rings_from, Ascends, Packed}
 use Rattle.frame.specs.declared.framing.Frame.{Frame}
-use Rattle.frame.proofs.Parting.{packed-ascends, rings-changed, length-changed}
-use Rattle.chart.specs.Chart.{normalisedBy}
+use Rattle.frame.proofs.Parting.{packed_ascends, rings_changed, length_changed}
+use Rattle.chart.specs.Chart.{normalised_by}
 
 abbrev change : Frame → Point → Point
-change f = normalOf f.least_u f.least_v f.scale_u f.scale_v
+change f = normal_of f.least_u f.least_v f.scale_u f.scale_v
 
 module _ (f : Frame) {ends : List ℕ} {xs normal : List Float} (before : List Float) (p : Packed ends xs) (same : length xs ≡ length before) (n : normal ≡ over (flat (map (change f) (pairs xs))) before) where
-  normal-is : normal ≡ flat (map (change f) (pairs xs))
-  normal-is = n ∙ over-all (flat (map (change f) (pairs xs))) before (sym (length-changed (change f) p ∙ same))
+  normal_is : normal ≡ flat (map (change f) (pairs xs))
+  normal_is = n ∙ over_all (flat (map (change f) (pairs xs))) before (sym (length_changed (change f) p ∙ same))
 
-  pub normal-rings : ringsFrom 0 ends normal ≡ normalisedBy f (ringsFrom 0 ends xs)
-  unfolding normalisedBy
-  normal-rings = ap (ringsFrom 0 ends) normal-is ∙ rings-changed (change f) p
+  pub normal_rings : rings_from 0 ends normal ≡ normalised_by f (rings_from 0 ends xs)
+  unfolding normalised_by
+  normal_rings = ap (rings_from 0 ends) normal_is ∙ rings_changed (change f) p
 
-  pub normal-length : length normal ≡ length xs
-  normal-length = ap length normal-is ∙ length-changed (change f) p
+  pub normal_length : length normal ≡ length xs
+  normal_length = ap length normal_is ∙ length_changed (change f) p
 
-  pub normal-ascends : Ascends 0 ends (length normal)
-  normal-ascends = subst (Ascends 0 ends) (sym normal-length) (packed-ascends p)
+  pub normal_ascends : Ascends 0 ends (length normal)
+  normal_ascends = subst (Ascends 0 ends) (sym normal_length) (packed_ascends p)

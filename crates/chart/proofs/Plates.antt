@@ -10,79 +10,79 @@ use native.Mathlib.Omega.{arith}
 use lib.ListN.{length}
 use lib.Ieee.{of_bits}
 use borrow.Author.Tests.{le-ltb}
-use Rattle.leaves.specs.Bounds.{smallerOf, largerOf}
-use Rattle.leaves.specs.Constants.{plusZero, decimal, deviationLimit, scaleLimit, joinLimit}
-use Rattle.leaves.specs.Hypot.{hypotOf}
-use Rattle.leaves.specs.Round.{roundOf}
-use Rattle.leaves.specs.Wrap.{wrapOf}
-use Rattle.leaves.proofs.Examples.{round-two-and-a-half, round-minus-two-and-a-half, root-two, root-least}
+use Rattle.leaves.specs.Bounds.{smaller_of, larger_of}
+use Rattle.leaves.specs.Constants.{plus_zero, decimal, deviation_limit, scale_limit, join_limit}
+use Rattle.leaves.specs.Hypot.{hypot_of}
+use Rattle.leaves.specs.Round.{round_of}
+use Rattle.leaves.specs.Wrap.{wrap_of}
+use Rattle.leaves.proofs.Examples.{round_two_and_a_half, round_minus_two_and_a_half, root_two, root_least}
 use Rattle.sheet.specs.Content.{Point, point}
-use Rattle.sheet.specs.Layout.{sheetOf, big}
+use Rattle.sheet.specs.Layout.{sheet_of, big}
 use Rattle.answers.specs.Outcome.{Check, check, first}
-use Rattle.sheet.specs.Checks.{layoutChecks, contentChecks}
-use Rattle.inside.specs.Inside.{insideOf}
-use Rattle.coverage.specs.Coverage.{windingOf}
-use Rattle.frame.specs.Framing.{joinsOpen, pointCount, phaseWrong}
-use Rattle.chart.specs.Chart.{roomWrong, frameChecks, chartChecks}
-use Rattle.chart.specs.Demand.{downTo}
-use Rattle.chart.specs.Plates.{Plates, square, halfway, plateA, raised, sheetBytes}
-use Rattle.chart.proofs.GridRule.{refused-above}
+use Rattle.sheet.specs.Checks.{layout_checks, content_checks}
+use Rattle.inside.specs.Inside.{inside_of}
+use Rattle.coverage.specs.Coverage.{winding_of}
+use Rattle.frame.specs.Framing.{joins_open, point_count, phase_wrong}
+use Rattle.chart.specs.Chart.{room_wrong, frame_checks, chart_checks}
+use Rattle.chart.specs.Demand.{down_to}
+use Rattle.chart.specs.Plates.{Plates, square, halfway, plate_a, raised, sheet_bytes}
+use Rattle.chart.proofs.GridRule.{refused_above}
 
 -- ---- plate A
 
 -- the bytes say what they are written from
-pub plate-A-read : sheetOf (sheetBytes (plateA (point plusZero plusZero))) ≡ plateA (point plusZero plusZero)
-unfolding sheetOf sheetBytes plateA of_bits
-plate-A-read = refl
+pub plate_A_read : sheet_of (sheet_bytes (plate_a (point plus_zero plus_zero))) ≡ plate_a (point plus_zero plus_zero)
+unfolding sheet_of sheet_bytes plate_a of_bits
+plate_A_read = refl
 
 -- the rows down to 13, with room for just the points
-thirteen : first (downTo 13 (chartChecks (sheetBytes (plateA (raised 13))) 0 136)) ≡ 13
-unfolding first downTo chartChecks big sheetBytes plateA of_bits smallerOf largerOf hypotOf deviationLimit scaleLimit joinLimit
+thirteen : first (down_to 13 (chart_checks (sheet_bytes (plate_a (raised 13))) 0 136)) ≡ 13
+unfolding first down_to chart_checks big sheet_bytes plate_a of_bits smaller_of larger_of hypot_of deviation_limit scale_limit join_limit
 thirteen = refl
 
-passes : first (downTo 13 (chartChecks (sheetBytes (plateA (raised 14))) 0 136)) ≡ 0
-unfolding first downTo chartChecks big sheetBytes plateA of_bits smallerOf largerOf hypotOf deviationLimit scaleLimit joinLimit
+passes : first (down_to 13 (chart_checks (sheet_bytes (plate_a (raised 14))) 0 136)) ≡ 0
+unfolding first down_to chart_checks big sheet_bytes plate_a of_bits smaller_of larger_of hypot_of deviation_limit scale_limit join_limit
 passes = refl
 
 -- the table turns on the room by row 9 alone
-same-rows : (s : List ℕ) (phase room more : ℕ) → roomWrong (sheetOf s) more ≡ roomWrong (sheetOf s) room → chartChecks s phase more ≡ chartChecks s phase room
-unfolding chartChecks
-same-rows s phase room more e = ap (λ (b : Bool). layoutChecks s ++ contentChecks (sheetOf s) ++ check 8 (phaseWrong (sheetOf s) phase) ∷ check 9 b ∷ frameChecks (sheetOf s) phase) e
+same_rows : (s : List ℕ) (phase room more : ℕ) → room_wrong (sheet_of s) more ≡ room_wrong (sheet_of s) room → chart_checks s phase more ≡ chart_checks s phase room
+unfolding chart_checks
+same_rows s phase room more e = ap (λ (b : Bool). layout_checks s ++ content_checks (sheet_of s) ++ check 8 (phase_wrong (sheet_of s) phase) ∷ check 9 b ∷ frame_checks (sheet_of s) phase) e
 
 module _ (last : Point) where
-  abbrev bytesA : List ℕ
-  bytesA = sheetBytes (plateA last)
+  abbrev bytes_a : List ℕ
+  bytes_a = sheet_bytes (plate_a last)
 
-  points-A : pointCount (sheetOf bytesA) ≡ 68
-  unfolding pointCount sheetOf sheetBytes plateA
-  points-A = refl
+  points_A : point_count (sheet_of bytes_a) ≡ 68
+  unfolding point_count sheet_of sheet_bytes plate_a
+  points_A = refl
 
-  room-right : (room : ℕ) → 136 ≤ room → roomWrong (sheetOf bytesA) room ≡ false
-  unfolding roomWrong
-  room-right room h = rw points-A (le-ltb room 136 h)
+  room_right_lem : (room : ℕ) → 136 ≤ room → room_wrong (sheet_of bytes_a) room ≡ false
+  unfolding room_wrong
+  room_right_lem room h = rw points_A (le-ltb room 136 h)
 
-  more-room : (room : ℕ) → 136 ≤ room → first (downTo 13 (chartChecks bytesA 0 room)) ≡ first (downTo 13 (chartChecks bytesA 0 136))
-  more-room room h = ap (λ (cs : List Check). first (downTo 13 cs)) (same-rows bytesA 0 136 room (room-right room h ∙ sym (room-right 136 (omega arith))))
+  more_room : (room : ℕ) → 136 ≤ room → first (down_to 13 (chart_checks bytes_a 0 room)) ≡ first (down_to 13 (chart_checks bytes_a 0 136))
+  more_room room h = ap (λ (cs : List Check). first (down_to 13 cs)) (same_rows bytes_a 0 136 room (room_right_lem room h ∙ sym (room_right_lem 136 (omega arith))))
 
 pub plates : Plates
-unfolding xor insideOf windingOf joinsOpen square halfway decimal of_bits sheetOf sheetBytes plateA smallerOf largerOf hypotOf roundOf wrapOf joinLimit
+unfolding xor inside_of winding_of joins_open square halfway decimal of_bits sheet_of sheet_bytes plate_a smaller_of larger_of hypot_of round_of wrap_of join_limit
 plates = record {
-  round-up = round-two-and-a-half;
-  round-down = round-minus-two-and-a-half;
-  root-of-two = root-two;
-  root-of-least = root-least;
-  lower-side = refl;
-  upper-side = refl;
-  winding-above = refl;
-  winding-below = refl;
-  winding-reversed = refl;
-  plate-A-13-read = refl;
-  plate-A-14-read = refl;
-  plate-A-open = λ out h.
-      let rows = more-room (raised 13) (length out) h ∙ thirteen in
-      refused-above (sheetBytes (plateA (raised 13))) 0 out (λ z. never (sym rows ∙ z)) ∙ rows;
-  plate-A-joins = refl;
-  plate-A-passes = λ out h. more-room (raised 14) (length out) h ∙ passes;
+  round_up = round_two_and_a_half;
+  round_down = round_minus_two_and_a_half;
+  root_of_two = root_two;
+  root_of_least = root_least;
+  lower_side = refl;
+  upper_side = refl;
+  winding_above = refl;
+  winding_below = refl;
+  winding_reversed = refl;
+  plate_A_13_read = refl;
+  plate_A_14_read = refl;
+  plate_A_open = λ out h.
+      let rows = more_room (raised 13) (length out) h ∙ thirteen in
+      refused_above (sheet_bytes (plate_a (raised 13))) 0 out (λ z. never (sym rows ∙ z)) ∙ rows;
+  plate_A_joins = refl;
+  plate_A_passes = λ out h. more_room (raised 14) (length out) h ∙ passes;
 }
   where
     never : ◌≡◌ {A = ℕ} 13 0 → ⊥

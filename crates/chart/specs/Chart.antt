@@ -4,30 +4,30 @@ use Rattle.std.specs.Prelude.{Bool, false, not, cond, ℕ, ◌*◌, eqb, ltb, le
 use mathlib.Core.List.{List, [], ◌∷◌, ◌++◌, map, foldl}
 use Rattle.std.specs.Float.{inf, binary64}
 use Rattle.std.specs.Float.Ieee.{add, sub, mul, lt}
-use Rattle.leaves.specs.Constants.{plusZero, clearanceLimit}
+use Rattle.leaves.specs.Constants.{plus_zero, clearance_limit}
 use Rattle.sheet.specs.Content.{Point, Sheet}
-use Rattle.sheet.specs.Layout.{sheetOf}
+use Rattle.sheet.specs.Layout.{sheet_of}
 use Rattle.answers.specs.Outcome.{Check, check, first, Numbers, settled}
-use Rattle.sheet.specs.Checks.{layoutChecks, contentChecks}
+use Rattle.sheet.specs.Checks.{layout_checks, content_checks}
 use Rattle.points.specs.Normalise.{normal}
 use Rattle.coverage.specs.Coverage.{covered}
 use Rattle.clearance.specs.Clearance.{nearer}
-use Rattle.points.specs.Written.{phaseAngle, written}
-use Rattle.frame.specs.Framing.{movedRings, frame, pointCount, phaseWrong, joinChecks}
-use Rattle.points.specs.Grid.{gridPoint}
+use Rattle.points.specs.Written.{phase_angle, written}
+use Rattle.frame.specs.Framing.{moved_rings, frame, point_count, phase_wrong, join_checks}
+use Rattle.points.specs.Grid.{grid_point}
 use Rattle.search.specs.Search.{search}
 use Rattle.frame.specs.declared.framing.Frame.{Frame}
 use Rattle.search.specs.declared.candidate.Candidate.{Candidate}
 
 -- ---- 5: "Normalise: (coordinate − least)/scale"
 
-unfoldable pub normalisedBy : Frame → List (List Point) → List (List Point)
+unfoldable pub normalised_by : Frame → List (List Point) → List (List Point)
 unfolding normal
-normalisedBy f rings = map (map (normal f.least_u f.least_v f.scale_u f.scale_v)) rings
+normalised_by f rings = map (map (normal f.least_u f.least_v f.scale_u f.scale_v)) rings
 
 unfoldable pub normalised : Sheet → ℕ → List (List Point)
-unfolding normalisedBy frame movedRings
-normalised s phase = normalisedBy (frame s phase) (movedRings s phase)
+unfolding normalised_by frame moved_rings
+normalised s phase = normalised_by (frame s phase) (moved_rings s phase)
 
 -- ---- rules 7 to 9 see the normalised rings, the frame and the sense, and nothing else
 
@@ -38,8 +38,8 @@ clearance f rings p = foldl (nearer f.periodic f.period p) (inf false) rings
 
 -- 9, over rule 6's grid
 unfoldable pub candidate : Frame → ℕ → List (List Point) → Candidate
-unfolding search covered clearance gridPoint
-candidate f sense rings = search (λ (i j : ℕ). covered f sense rings (gridPoint i j)) (λ (i j : ℕ). clearance f rings (gridPoint i j))
+unfolding search covered clearance grid_point
+candidate f sense rings = search (λ (i j : ℕ). covered f sense rings (grid_point i j)) (λ (i j : ℕ). clearance f rings (grid_point i j))
 
 -- ---- the grid point that a sheet's rings give
 
@@ -51,12 +51,12 @@ chosen s phase = candidate (frame s phase) s.sense (normalised s phase)
 
 -- "u = least + p.u × scale, v = least + p.v × scale − phase (0 or PI), third coordinate 0, with clearance and count"
 unfoldable pub answered : Frame → ℕ → Candidate → Numbers
-unfolding add sub mul phaseAngle
+unfolding add sub mul phase_angle
 answered f phase c = record {
   status = 0;
   x = add binary64 f.least_u (mul binary64 c.u f.scale_u);
-  y = sub binary64 (add binary64 f.least_v (mul binary64 c.v f.scale_v)) (phaseAngle phase);
-  z = plusZero;
+  y = sub binary64 (add binary64 f.least_v (mul binary64 c.v f.scale_v)) (phase_angle phase);
+  z = plus_zero;
   clearance = c.clearance;
   count = c.count;
 }
@@ -64,28 +64,28 @@ answered f phase c = record {
 -- ---- the table, read top to bottom
 
 -- 9: "chart: output shorter than 2 × points"
-unfoldable pub roomWrong : Sheet → ℕ → Bool
-unfolding pointCount
-roomWrong s room = ltb room (2 * pointCount s)
+unfoldable pub room_wrong : Sheet → ℕ → Bool
+unfolding point_count
+room_wrong s room = ltb room (2 * point_count s)
 
 -- 14: "no covered grid point with clearance above 0.01"
-unfoldable pub noneClear : Candidate → Bool
+unfoldable pub none_clear : Candidate → Bool
 unfolding lt
-noneClear c = not (lt clearanceLimit c.clearance)
+none_clear c = not (lt clearance_limit c.clearance)
 
 -- the rows behind the call's own, which stand between 8 and 11
-unfoldable pub frameChecks : Sheet → ℕ → List Check
-unfolding joinChecks noneClear
-frameChecks s phase = joinChecks s phase ++ check 14 (noneClear (chosen s phase)) ∷ []
+unfoldable pub frame_checks : Sheet → ℕ → List Check
+unfolding join_checks none_clear
+frame_checks s phase = join_checks s phase ++ check 14 (none_clear (chosen s phase)) ∷ []
 
-unfoldable pub chartChecks : List ℕ → ℕ → ℕ → List Check
-unfolding layoutChecks contentChecks sheetOf phaseWrong roomWrong frameChecks
-chartChecks s phase room =
-    layoutChecks s
-    ++ contentChecks (sheetOf s)
-    ++ check 8 (phaseWrong (sheetOf s) phase)
-    ∷ check 9 (roomWrong (sheetOf s) room)
-    ∷ frameChecks (sheetOf s) phase
+unfoldable pub chart_checks : List ℕ → ℕ → ℕ → List Check
+unfolding layout_checks content_checks sheet_of phase_wrong room_wrong frame_checks
+chart_checks s phase room =
+    layout_checks s
+    ++ content_checks (sheet_of s)
+    ++ check 8 (phase_wrong (sheet_of s) phase)
+    ∷ check 9 (room_wrong (sheet_of s) room)
+    ∷ frame_checks (sheet_of s) phase
 
 -- ---- the call
 
@@ -99,12 +99,12 @@ charted numbers points = record { numbers = numbers; points = points }
 -- "With a refusal all other result numbers are 0 and no lent list is written"; else the chart's answer, and the moved
 -- points over the front of the list, whose tail keeps its contents
 unfoldable pub outcome : ℕ → Sheet → ℕ → List Float → Charted
-unfolding settled answered frame written movedRings
+unfolding settled answered frame written moved_rings
 outcome refusal s phase out =
     charted
     (settled refusal (answered (frame s phase) phase (chosen s phase)))
-    (cond (eqb refusal 0) (written phase (movedRings s phase) ++ drop (length (written phase (movedRings s phase))) out) out)
+    (cond (eqb refusal 0) (written phase (moved_rings s phase) ++ drop (length (written phase (moved_rings s phase))) out) out)
 
-unfoldable pub chartOf : List ℕ → ℕ → List Float → Charted
-unfolding outcome first chartChecks sheetOf
-chartOf s phase out = outcome (first (chartChecks s phase (length out))) (sheetOf s) phase out
+unfoldable pub chart_of : List ℕ → ℕ → List Float → Charted
+unfolding outcome first chart_checks sheet_of
+chart_of s phase out = outcome (first (chart_checks s phase (length out))) (sheet_of s) phase out

@@ -2,10 +2,10 @@
 -- them: the theorems in proofs/ do.
 use Rattle.std.specs.Prelude.{◌≡◌, ◌↔◌, ◌⊎◌, Bool, true, false, not, cond, List, [], ◌∷◌, ℕ, suc, ◌≤◌, ◌<◌, T, eqb, Float, ◌+ℤ◌}
 use Rattle.std.specs.Float.Ieee.{lt, le}
-use Rattle.leaves.specs.Constants.{clearanceLimit}
+use Rattle.leaves.specs.Constants.{clearance_limit}
 use Rattle.sheet.specs.Content.{Point, Sheet}
 use Rattle.answers.specs.Outcome.{Check, first, Numbers}
-use Rattle.points.specs.Grid.{part, gridPoint, gridOf}
+use Rattle.points.specs.Grid.{part, grid_point, grid_of}
 use Rattle.search.specs.declared.candidate.Candidate.{Candidate}
 use Rattle.coverage.specs.Coverage.{crossings, covered}
 use Rattle.chart.specs.Chart.{clearance, normalised}
@@ -14,10 +14,10 @@ use Rattle.frame.specs.Framing.{frame}
 -- ---- "31 × 31 grid points", "u before v"
 
 pub record OnGrid (i j : ℕ) : Type 0 where
-  pub i-from : 1 ≤ i
-  pub i-to : i ≤ 31
-  pub j-from : 1 ≤ j
-  pub j-to : j ≤ 31
+  pub i_from : 1 ≤ i
+  pub i_to : i ≤ 31
+  pub j_from : 1 ≤ j
+  pub j_to : j ≤ 31
 
 -- "A grid point comes after another with lesser i, or with the same i and lesser j": (i, j) comes after (k, l)
 abbrev pub After : ℕ → ℕ → ℕ → ℕ → Type 0
@@ -30,9 +30,9 @@ trues (true ∷ bs) = suc (trues bs)
 trues (false ∷ bs) = trues bs
 
 -- "the covered grid points", counted
-unfoldable pub coveredCount : (ℕ → ℕ → Bool) → ℕ
-unfolding trues gridOf
-coveredCount cover = trues (gridOf cover)
+unfoldable pub covered_count : (ℕ → ℕ → Bool) → ℕ
+unfolding trues grid_of
+covered_count cover = trues (grid_of cover)
 
 -- ---- the chosen point, over any coverage and any clearance of the grid points
 
@@ -41,7 +41,7 @@ module _ (cover : ℕ → ℕ → Bool) (clear : ℕ → ℕ → Float) where
   pub record Serves (i j : ℕ) : Type 0 where
     pub on : OnGrid i j
     pub covered : T (cover i j)
-    pub above : T (lt clearanceLimit (clear i j))
+    pub above : T (lt clearance_limit (clear i j))
 
   abbrev pub NoneServes : Type 0
   NoneServes = (i j : ℕ) → Serves i j → ⊥
@@ -54,30 +54,30 @@ module _ (cover : ℕ → ℕ → Bool) (clear : ℕ → ℕ → Float) where
     pub first : (k l : ℕ) → OnGrid k l → T (cover k l) → After i j k l → T (lt (clear k l) (clear i j))
 
   -- the grid point as the search gives it: its place, its clearance, and the number of covered grid points
-  abbrev pub candidateAt : ℕ → ℕ → Candidate
-  candidateAt i j = record { u = part i; v = part j; clearance = clear i j; count = coveredCount cover }
+  abbrev pub candidate_at : ℕ → ℕ → Candidate
+  candidate_at i j = record { u = part i; v = part j; clearance = clear i j; count = covered_count cover }
 
 -- ---- coverage and clearance of a sheet's grid points, by rules 7 and 8
 
 module _ (s : Sheet) (phase : ℕ) where
-  unfoldable pub coverAt : ℕ → ℕ → Bool
-  unfolding covered frame normalised gridPoint
-  coverAt i j = covered (frame s phase) s.sense (normalised s phase) (gridPoint i j)
+  unfoldable pub cover_at : ℕ → ℕ → Bool
+  unfolding covered frame normalised grid_point
+  cover_at i j = covered (frame s phase) s.sense (normalised s phase) (grid_point i j)
 
-  unfoldable pub clearAt : ℕ → ℕ → Float
-  unfolding clearance frame normalised gridPoint
-  clearAt i j = clearance (frame s phase) (normalised s phase) (gridPoint i j)
+  unfoldable pub clear_at : ℕ → ℕ → Float
+  unfolding clearance frame normalised grid_point
+  clear_at i j = clearance (frame s phase) (normalised s phase) (grid_point i j)
 
 -- ---- "Suppose a sheet passes every check through the joins"
 
 -- the rows of a table down to the one numbered n, by place; all of them where none has that number
-unfoldable pub downTo : ℕ → List Check → List Check
-downTo n [] = []
-downTo n (c ∷ cs) = c ∷ cond (eqb c.number n) [] (downTo n cs)
+unfoldable pub down_to : ℕ → List Check → List Check
+down_to n [] = []
+down_to n (c ∷ cs) = c ∷ cond (eqb c.number n) [] (down_to n cs)
 
 -- "passes the checks down to" n
 abbrev pub Passes : ℕ → List Check → Type 0
-Passes n cs = first (downTo n cs) ≡ 0
+Passes n cs = first (down_to n cs) ≡ 0
 
 -- ---- "division of the rings into two groups"
 
@@ -91,18 +91,18 @@ others d n = not (d n)
 
 -- ---- "a numbered refusal", of the chart: its table's numbers, and 0 for a point
 
-abbrev pub chartStatuses : List ℕ
-chartStatuses = 0 ∷ 1 ∷ 2 ∷ 3 ∷ 4 ∷ 5 ∷ 6 ∷ 7 ∷ 8 ∷ 9 ∷ 11 ∷ 12 ∷ 13 ∷ 14 ∷ []
+abbrev pub chart_statuses : List ℕ
+chart_statuses = 0 ∷ 1 ∷ 2 ∷ 3 ∷ 4 ∷ 5 ∷ 6 ∷ 7 ∷ 8 ∷ 9 ∷ 11 ∷ 12 ∷ 13 ∷ 14 ∷ []
 
 -- ---- the sentences, of a sheet's content
 
 -- 14 exactly where no grid point serves; else `numbers` are those of the clearest covered grid point, the first of
 -- those as clear
 abbrev pub Rule : Sheet → ℕ → Numbers → (Candidate → Numbers) → Type 0
-Rule s phase numbers ofChosen =
-    ((numbers.status ≡ 14) ↔ NoneServes (coverAt s phase) (clearAt s phase))
-    × ((NoneServes (coverAt s phase) (clearAt s phase) → ⊥)
-    → (i : ℕ) × (j : ℕ) × Clearest (coverAt s phase) (clearAt s phase) i j × (numbers ≡ ofChosen (candidateAt (coverAt s phase) (clearAt s phase) i j)))
+Rule s phase numbers of_chosen =
+    ((numbers.status ≡ 14) ↔ NoneServes (cover_at s phase) (clear_at s phase))
+    × ((NoneServes (cover_at s phase) (clear_at s phase) → ⊥)
+    → (i : ℕ) × (j : ℕ) × Clearest (cover_at s phase) (clear_at s phase) i j × (numbers ≡ of_chosen (candidate_at (cover_at s phase) (clear_at s phase) i j)))
 
 -- the crossings of the two groups that d divides the rings into add to those of all
 abbrev pub GroupsAdd : Sheet → ℕ → (ℕ → Bool) → Point → Type 0

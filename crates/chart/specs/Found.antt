@@ -6,18 +6,18 @@ use Rattle.sheet.specs.Content.{Sheet}
 use Rattle.frame.specs.Framing.{frame}
 use Rattle.frame.specs.declared.framing.Frame.{Frame}
 use Rattle.search.specs.declared.candidate.Candidate.{Candidate}
-use Rattle.chart.specs.Chart.{chosen, frameChecks}
+use Rattle.chart.specs.Chart.{chosen, frame_checks}
 use Rattle.chart.specs.declared.grid_point.Found.{Found}
 use Rattle.chart.specs.declared.grid_point.Found.TheVariants.{Chosen, Refused}
 
-unfoldable pub findChecks : Bool → Sheet → ℕ → List Check
-unfolding frameChecks
-findChecks fits s phase = check 9 (not fits) ∷ frameChecks s phase
+unfoldable pub find_checks : Bool → Sheet → ℕ → List Check
+unfolding frame_checks
+find_checks fits s phase = check 9 (not fits) ∷ frame_checks s phase
 
 -- the frame and the grid point where no check fails, else the first that does
-unfoldable pub settledFound : ℕ → Frame → Candidate → Found
-settledFound refusal f c = cond (eqb refusal 0) (Chosen f c) (Refused refusal)
+unfoldable pub settled_found : ℕ → Frame → Candidate → Found
+settled_found refusal f c = cond (eqb refusal 0) (Chosen f c) (Refused refusal)
 
-unfoldable pub foundOf : Bool → Sheet → ℕ → Found
-unfolding settledFound findChecks
-foundOf fits s phase = settledFound (first (findChecks fits s phase)) (frame s phase) (chosen s phase)
+unfoldable pub found_of : Bool → Sheet → ℕ → Found
+unfolding settled_found find_checks
+found_of fits s phase = settled_found (first (find_checks fits s phase)) (frame s phase) (chosen s phase)

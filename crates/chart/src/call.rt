@@ -1,9 +1,9 @@
 // The chart call.
 ghost use Rattle.std.specs.Prelude.{◌≡◌, ◌*◌, ◌≤◌, eqb, length};
-ghost use Rattle.answers.specs.Answers.{paper, isPoint};
-ghost use Rattle.sheet.specs.Layout.{ringCount, sheetOf};
-ghost use Rattle.frame.specs.Framing.{pointCount};
-ghost use Rattle.chart.specs.Chart.{answered, charted, chartOf};
+ghost use Rattle.answers.specs.Answers.{paper, is_point};
+ghost use Rattle.sheet.specs.Layout.{ring_count, sheet_of};
+ghost use Rattle.frame.specs.Framing.{point_count};
+ghost use Rattle.chart.specs.Chart.{answered, charted, chart_of};
 ghost use Rattle.chart.specs.Stages.{Passed};
 
 use crate::grid_point::{Found, answered_u, answered_v, find};
@@ -13,7 +13,7 @@ use search::Candidate;
 
 // The chosen grid point back in the chart, with its clearance and the count.
 fn answer(f: Frame, phase: u32, best: Candidate) -> Answer
-    ensures { (paper result ≡ answered f phase best) × (isPoint result ≡ eqb (paper result).status 0) }
+    ensures { (paper result ≡ answered f phase best) × (is_point result ≡ eqb (paper result).status 0) }
 {
     Answer::Point(
         answered_u(f, best),
@@ -33,8 +33,8 @@ fn chart_over(
     ends: &mut [usize],
     points: &mut [f64],
 ) -> Answer
-    requires { Passed s.now phase points.old × (length moved.old ≡ 2 * pointCount (sheetOf s.now)) × (length ends.old ≡ ringCount s.now) }
-    ensures { (charted (paper result) points.new ≡ chartOf s.now phase points.old) × (isPoint result ≡ eqb (paper result).status 0) }
+    requires { Passed s.now phase points.old × (length moved.old ≡ 2 * point_count (sheet_of s.now)) × (length ends.old ≡ ring_count s.now) }
+    ensures { (charted (paper result) points.new ≡ chart_of s.now phase points.old) × (is_point result ≡ eqb (paper result).status 0) }
 {
     match find(s, phase, moved, ends) {
         Found::Refused(number) => Answer::Refused(number),
@@ -47,8 +47,8 @@ fn chart_over(
 
 // The same, over small lists of its own.
 fn chart_small(s: &[u8], phase: u32, n: usize, count: usize, points: &mut [f64]) -> Answer
-    requires { Passed s.now phase points.old × (n ≡ 2 * pointCount (sheetOf s.now)) × (count ≡ ringCount s.now) × (n ≤ 544) }
-    ensures { (charted (paper result) points.new ≡ chartOf s.now phase points.old) × (isPoint result ≡ eqb (paper result).status 0) }
+    requires { Passed s.now phase points.old × (n ≡ 2 * point_count (sheet_of s.now)) × (count ≡ ring_count s.now) × (n ≤ 544) }
+    ensures { (charted (paper result) points.new ≡ chart_of s.now phase points.old) × (is_point result ≡ eqb (paper result).status 0) }
 {
     let mut moved = [0.0f64; sheet::SMALL_NUMBERS];
     let mut ends = [0usize; sheet::MOST_RINGS];
@@ -57,8 +57,8 @@ fn chart_small(s: &[u8], phase: u32, n: usize, count: usize, points: &mut [f64])
 
 // The same, over lists of its own for the points of any sheet.
 fn chart_large(s: &[u8], phase: u32, n: usize, count: usize, points: &mut [f64]) -> Answer
-    requires { Passed s.now phase points.old × (n ≡ 2 * pointCount (sheetOf s.now)) × (count ≡ ringCount s.now) }
-    ensures { (charted (paper result) points.new ≡ chartOf s.now phase points.old) × (isPoint result ≡ eqb (paper result).status 0) }
+    requires { Passed s.now phase points.old × (n ≡ 2 * point_count (sheet_of s.now)) × (count ≡ ring_count s.now) }
+    ensures { (charted (paper result) points.new ≡ chart_of s.now phase points.old) × (is_point result ≡ eqb (paper result).status 0) }
 {
     let mut moved = [0.0f64; sheet::MOST_NUMBERS];
     let mut ends = [0usize; sheet::MOST_RINGS];
@@ -68,7 +68,7 @@ fn chart_large(s: &[u8], phase: u32, n: usize, count: usize, points: &mut [f64])
 // The chart of a sheet at a phase: the chosen grid point, and the moved points in the output list, which a
 // refusal leaves as it is.
 pub fn chart(s: &[u8], phase: u32, points: &mut [f64]) -> Answer
-    ensures { (charted (paper result) points.new ≡ chartOf s.now phase points.old) × (isPoint result ≡ eqb (paper result).status 0) }
+    ensures { (charted (paper result) points.new ≡ chart_of s.now phase points.old) × (is_point result ≡ eqb (paper result).status 0) }
 {
     let refusal = frame::refusal(s, phase);
     if refusal != 0 {

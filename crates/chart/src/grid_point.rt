@@ -1,9 +1,9 @@
 // Checks 11 to 14 and rules 1 to 9: the grid point of a sheet, for the chart and the picks.
 ghost use Rattle.std.specs.Prelude.{◌≡◌, length};
-ghost use Rattle.sheet.specs.Layout.{sheetOf};
-ghost use Rattle.frame.specs.Seam.{fitting, laidPoints, laidEnds};
+ghost use Rattle.sheet.specs.Layout.{sheet_of};
+ghost use Rattle.frame.specs.Seam.{fitting, laid_points, laid_ends};
 ghost use Rattle.chart.specs.Chart.{answered};
-ghost use Rattle.chart.specs.Found.{foundOf};
+ghost use Rattle.chart.specs.Found.{found_of};
 
 use crate::choice::chosen;
 use frame::{Frame, Framed};
@@ -21,7 +21,7 @@ pub enum Found {
 // points and where the rings end go into the lists, as `frame::lay_out` lays them: lists of another size than
 // the sheet's are refused with 9, and stay as they are.
 pub fn find(s: &[u8], phase: u32, points: &mut [f64], ends: &mut [usize]) -> Found
-    ensures { (result ≡ foundOf (fitting (sheetOf s.now) (length points.old) (length ends.old)) (sheetOf s.now) phase) × (points.new ≡ laidPoints (fitting (sheetOf s.now) (length points.old) (length ends.old)) (sheetOf s.now) phase points.old) × (ends.new ≡ laidEnds (fitting (sheetOf s.now) (length points.old) (length ends.old)) (sheetOf s.now) phase ends.old) }
+    ensures { (result ≡ found_of (fitting (sheet_of s.now) (length points.old) (length ends.old)) (sheet_of s.now) phase) × (points.new ≡ laid_points (fitting (sheet_of s.now) (length points.old) (length ends.old)) (sheet_of s.now) phase points.old) × (ends.new ≡ laid_ends (fitting (sheet_of s.now) (length points.old) (length ends.old)) (sheet_of s.now) phase ends.old) }
 {
     match frame::lay_out(s, phase, points, ends) {
         Framed::Refused(number) => Found::Refused(number),

@@ -5,67 +5,67 @@ use mathlib.Core.Path.{◌≡◌, refl, sym, ap, ◌∙◌, fun_ext}
 use mathlib.Core.Bool.{Bool}
 use mathlib.Core.List.{List, [], ◌∷◌, foldl, map, foldl-map}
 use lib.Ieee.{Float, binary64}
-use Rattle.leaves.specs.Bounds.{smallerOf}
-use Rattle.leaves.specs.Hypot.{hypotOfKey}
+use Rattle.leaves.specs.Bounds.{smaller_of}
+use Rattle.leaves.specs.Hypot.{hypot_of_key}
 use Rattle.leaves.proofs.Choices.{Clear}
-use Rattle.leaves.proofs.Folds.{All, all-of, fold-keeps}
+use Rattle.leaves.proofs.Folds.{All, all_of, fold_keeps}
 use Rattle.leaves.specs.Keys.{Key}
-use Rattle.leaves.proofs.Hypotenuses.{key-is, smaller-key, least-hypot, hypot-by-key, hypot-clear}
+use Rattle.leaves.proofs.Hypotenuses.{key_is, smaller_key, least_hypot, hypot_by_key, hypot_clear}
 use Rattle.sheet.specs.Content.{Point}
-use Rattle.answers.proofs.Permutations.{all-map}
+use Rattle.answers.proofs.Permutations.{all_map}
 use Rattle.points.specs.Segments.{Between, Segment, segments}
-use Rattle.clearance.specs.Clearance.{residual, copy, distance, leastOf, nearer}
-use Rattle.clearance.specs.Nearest.{keyTo}
-use Rattle.clearance.proofs.LeastDistance.{leastStep}
+use Rattle.clearance.specs.Clearance.{residual, copy, distance, least_of, nearer}
+use Rattle.clearance.specs.Nearest.{key_to}
+use Rattle.clearance.proofs.LeastDistance.{least_step}
 
 module _ {A : Type 0} (key : Between A → Float) (keyed : (s : Between A) → Key (key s)) where
   -- ---- one ring
 
-  all-keyed : (ss : List (Between A)) → All (λ (s : Between A). Key (key s)) ss
-  all-keyed = all-of (λ (s : Between A). Key (key s)) keyed
+  all_keyed : (ss : List (Between A)) → All (λ (s : Between A). Key (key s)) ss
+  all_keyed = all_of (λ (s : Between A). Key (key s)) keyed
 
-  pub least-key : (k : Float) (ring : List A) → Key k → Key (leastOf key k ring)
-  unfolding leastOf
-  least-key k ring h =
-      fold-keeps (leastStep key) Key (λ (s : Between A). Key (key s)) (λ l s p q. smaller-key l (key s) p q) (segments ring) (all-keyed (segments ring)) k h
+  pub least_key_lem : (k : Float) (ring : List A) → Key k → Key (least_of key k ring)
+  unfolding least_of
+  least_key_lem k ring h =
+      fold_keeps (least_step key) Key (λ (s : Between A). Key (key s)) (λ l s p q. smaller_key l (key s) p q) (segments ring) (all_keyed (segments ring)) k h
 
-  pub least-by-key : (k : Float) (ring : List A) → Key k → leastOf (λ (s : Between A). hypotOfKey (key s)) (hypotOfKey k) ring ≡ hypotOfKey (leastOf key k ring)
-  unfolding leastOf
-  least-by-key k ring h =
+  pub least_by_key : (k : Float) (ring : List A) → Key k → least_of (λ (s : Between A). hypot_of_key (key s)) (hypot_of_key k) ring ≡ hypot_of_key (least_of key k ring)
+  unfolding least_of
+  least_by_key k ring h =
       let ss = segments ring in
-      sym (foldl-map key (λ (d l : Float). smallerOf d (hypotOfKey l)) ss (hypotOfKey k))
-      ∙ least-hypot (map key ss) (all-map Key key ss (all-keyed ss)) k h
-      ∙ ap hypotOfKey (foldl-map key smallerOf ss k)
+      sym (foldl-map key (λ (d l : Float). smaller_of d (hypot_of_key l)) ss (hypot_of_key k))
+      ∙ least_hypot (map key ss) (all_map Key key ss (all_keyed ss)) k h
+      ∙ ap hypot_of_key (foldl-map key smaller_of ss k)
 
   -- ---- many rings
 
-  pub nearest-by-key : (k : Float) (rings : List (List A)) → Key k
-      → foldl (leastOf (λ (s : Between A). hypotOfKey (key s))) (hypotOfKey k) rings ≡ hypotOfKey (foldl (leastOf key) k rings)
-  nearest-by-key k [] h = refl
-  nearest-by-key k (ring ∷ rings) h =
-      ap (λ (d : Float). foldl (leastOf (λ (s : Between A). hypotOfKey (key s))) d rings) (least-by-key k ring h) ∙ nearest-by-key (leastOf key k ring) rings (least-key k ring h)
+  pub nearest_by_key : (k : Float) (rings : List (List A)) → Key k
+      → foldl (least_of (λ (s : Between A). hypot_of_key (key s))) (hypot_of_key k) rings ≡ hypot_of_key (foldl (least_of key) k rings)
+  nearest_by_key k [] h = refl
+  nearest_by_key k (ring ∷ rings) h =
+      ap (λ (d : Float). foldl (least_of (λ (s : Between A). hypot_of_key (key s))) d rings) (least_by_key k ring h) ∙ nearest_by_key (least_of key k ring) rings (least_key_lem k ring h)
 
 -- ---- in the chart
 
 module _ (periodic : Bool) (period : Float) (p : Point) where
   -- the key of the distance to a segment's copy
-  abbrev pub copyKey : Segment → Float
-  copyKey s = keyTo p (copy periodic period p s)
+  abbrev pub copy_key : Segment → Float
+  copy_key s = key_to p (copy periodic period p s)
 
-  copy-key : (s : Segment) → Key (copyKey s)
-  unfolding keyTo
-  copy-key s = key-is (residual p (copy periodic period p s)).u (residual p (copy periodic period p s)).v
+  copy_key_lem : (s : Segment) → Key (copy_key s)
+  unfolding key_to
+  copy_key_lem s = key_is (residual p (copy periodic period p s)).u (residual p (copy periodic period p s)).v
 
-  distance-by-key : distance periodic period p ≡ (λ (s : Segment). hypotOfKey (copyKey s))
-  unfolding distance keyTo
-  distance-by-key = fun_ext (λ s. hypot-by-key (residual p (copy periodic period p s)).u (residual p (copy periodic period p s)).v)
+  distance_by_key : distance periodic period p ≡ (λ (s : Segment). hypot_of_key (copy_key s))
+  unfolding distance key_to
+  distance_by_key = fun_ext (λ s. hypot_by_key (residual p (copy periodic period p s)).u (residual p (copy periodic period p s)).v)
 
-  pub distance-clear : (s : Segment) → Clear binary64 (distance periodic period p s)
+  pub distance_clear : (s : Segment) → Clear binary64 (distance periodic period p s)
   unfolding distance
-  distance-clear s = hypot-clear (residual p (copy periodic period p s)).u (residual p (copy periodic period p s)).v
+  distance_clear s = hypot_clear (residual p (copy periodic period p s)).u (residual p (copy periodic period p s)).v
 
-  pub nearer-by-key : (k : Float) (rings : List (List Point)) → Key k
-      → foldl (nearer periodic period p) (hypotOfKey k) rings ≡ hypotOfKey (foldl (leastOf copyKey) k rings)
+  pub nearer_by_key : (k : Float) (rings : List (List Point)) → Key k
+      → foldl (nearer periodic period p) (hypot_of_key k) rings ≡ hypot_of_key (foldl (least_of copy_key) k rings)
   unfolding nearer
-  nearer-by-key k rings h =
-      ap (λ (d : Segment → Float). foldl (leastOf d) (hypotOfKey k) rings) distance-by-key ∙ nearest-by-key copyKey copy-key k rings h
+  nearer_by_key k rings h =
+      ap (λ (d : Segment → Float). foldl (least_of d) (hypot_of_key k) rings) distance_by_key ∙ nearest_by_key copy_key copy_key_lem k rings h

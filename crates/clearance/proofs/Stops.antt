@@ -9,24 +9,24 @@ use borrow.Author.Tests.{ltb-true, lt-ltb}
 use lib.Dec.{T, ltb}
 use lib.Ieee.{Float, inf, binary64, lt, le, fits, is_nan}
 use lib.ListN.{length, drop}
-use Rattle.leaves.specs.Bounds.{smallerOf, largerOf}
-use Rattle.leaves.proofs.Choices.{smaller-by-test, smaller-le-first, smaller-le-second, smaller-number, larger-by-test}
+use Rattle.leaves.specs.Bounds.{smaller_of, larger_of}
+use Rattle.leaves.proofs.Choices.{smaller_by_test, smaller_le_first, smaller_le_second, smaller_number, larger_by_test}
 use Rattle.leaves.specs.Keys.{Key}
-use Rattle.leaves.proofs.Hypotenuses.{key-is, inf-key, smaller-key}
-use Rattle.leaves.proofs.Order.{le-left, le-self, le-trans, le→not-lt}
+use Rattle.leaves.proofs.Hypotenuses.{key_is, inf_key, smaller_key}
+use Rattle.leaves.proofs.Order.{le_left, le_self, float_le_trans, le→not-lt}
 use Rattle.sheet.specs.Content.{Point}
 use Rattle.clearance.specs.Clearance.{residual}
 use Rattle.points.proofs.ColumnOrder.{holds}
 use Rattle.points.specs.Segments.{Segment}
-use Rattle.clearance.specs.Nearest.{keyTo, leastKey, stopsAt}
-use Rattle.clearance.specs.SegmentLists.{segmentsIn, segmentAt}
-use Rattle.clearance.proofs.SegmentsRead.{segments-step, segments-end}
+use Rattle.clearance.specs.Nearest.{key_to, least_key, stops_at}
+use Rattle.clearance.specs.SegmentLists.{segments_in, segment_at}
+use Rattle.clearance.proofs.SegmentsRead.{segments_step, segments_end}
 
 -- ---- tests
 
-not-so : (t : Bool) → T (not t) → t ≡ false
-not-so true h = absurd h
-not-so false h = refl
+not_so : (t : Bool) → T (not t) → t ≡ false
+not_so true h = absurd h
+not_so false h = refl
 
 both : (a b : Bool) → a && b ≡ true → (a ≡ true) × (b ≡ true)
 both true b e = (refl, e)
@@ -34,97 +34,97 @@ both false b e = absurd (subst T (sym e) tt)
 
 -- ---- the larger of `bar` and what is not above it
 
-pub larger-stays : (bar x : Float) → T (le x bar) → largerOf bar x ≡ bar
-larger-stays bar x h = larger-by-test bar x ∙ ap (λ (t : Bool). cond t x bar) (not-so (lt bar x) (le→not-lt x bar h))
+pub larger_stays : (bar x : Float) → T (le x bar) → larger_of bar x ≡ bar
+larger_stays bar x h = larger_by_test bar x ∙ ap (λ (t : Bool). cond t x bar) (not_so (lt bar x) (le→not-lt x bar h))
 
 module _ (p : Point) where
-  pub key-of : (s : Segment) → Key (keyTo p s)
-  unfolding keyTo
-  key-of s = key-is (residual p s).u (residual p s).v
+  pub key_of_lem : (s : Segment) → Key (key_to p s)
+  unfolding key_to
+  key_of_lem s = key_is (residual p s).u (residual p s).v
 
   -- ---- the least, a segment at a time
 
-  pub least-none : (k : Float) → leastKey p k [] ≡ k
-  unfolding leastKey
-  least-none k = refl
+  pub least_none : (k : Float) → least_key p k [] ≡ k
+  unfolding least_key
+  least_none k = refl
 
-  pub least-more : (k : Float) (s : Segment) (ss : List Segment) → leastKey p k (s ∷ ss) ≡ leastKey p (smallerOf k (keyTo p s)) ss
-  unfolding leastKey
-  least-more k s ss = refl
+  pub least_more : (k : Float) (s : Segment) (ss : List Segment) → least_key p k (s ∷ ss) ≡ least_key p (smaller_of k (key_to p s)) ss
+  unfolding least_key
+  least_more k s ss = refl
 
-  pub least-key : (ss : List Segment) (k : Float) → Key k → Key (leastKey p k ss)
-  unfolding leastKey
-  least-key [] k h = h
-  least-key (s ∷ ss) k h = least-key ss (smallerOf k (keyTo p s)) (smaller-key k (keyTo p s) h (key-of s))
+  pub least_key_lem : (ss : List Segment) (k : Float) → Key k → Key (least_key p k ss)
+  unfolding least_key
+  least_key_lem [] k h = h
+  least_key_lem (s ∷ ss) k h = least_key_lem ss (smaller_of k (key_to p s)) (smaller_key k (key_to p s) h (key_of_lem s))
 
   -- it is not above its start
-  least-le-start : (ss : List Segment) (k : Float) → Key k → T (not (is_nan k)) → T (le (leastKey p k ss) k)
-  unfolding leastKey
-  least-le-start [] k h n = le-self k n
-  least-le-start (s ∷ ss) k h n =
-      let m = smallerOf k (keyTo p s) in
-      let g : Key m = smaller-key k (keyTo p s) h (key-of s) in
-      le-trans binary64 (leastKey p m ss) m k (least-key ss m g).held g.held h.held (least-le-start ss m g (smaller-number k (keyTo p s) n)) (smaller-le-first k (keyTo p s) n)
+  least_le_start : (ss : List Segment) (k : Float) → Key k → T (not (is_nan k)) → T (le (least_key p k ss) k)
+  unfolding least_key
+  least_le_start [] k h n = le_self k n
+  least_le_start (s ∷ ss) k h n =
+      let m = smaller_of k (key_to p s) in
+      let g : Key m = smaller_key k (key_to p s) h (key_of_lem s) in
+      float_le_trans binary64 (least_key p m ss) m k (least_key_lem ss m g).held g.held h.held (least_le_start ss m g (smaller_number k (key_to p s) n)) (smaller_le_first k (key_to p s) n)
 
   module _ (xs : List Float) where
     -- over the segments from the place k on
-    abbrev pub leastFrom : Float → ℕ → Float
-    leastFrom least k = leastKey p least (segmentsIn (drop (4 * k) xs))
+    abbrev pub least_from : Float → ℕ → Float
+    least_from least k = least_key p least (segments_in (drop (4 * k) xs))
 
-    pub least-step : (least : Float) (k : ℕ) → k < length xs / 4 → leastFrom least k ≡ leastFrom (smallerOf least (keyTo p (segmentAt xs k))) (k + 1)
-    least-step least k h = ap (leastKey p least) (segments-step xs k (omega arith)) ∙ least-more least (segmentAt xs k) (segmentsIn (drop (4 * (k + 1)) xs))
+    pub least_step_lem : (least : Float) (k : ℕ) → k < length xs / 4 → least_from least k ≡ least_from (smaller_of least (key_to p (segment_at xs k))) (k + 1)
+    least_step_lem least k h = ap (least_key p least) (segments_step xs k (omega arith)) ∙ least_more least (segment_at xs k) (segments_in (drop (4 * (k + 1)) xs))
 
-    pub least-end : (least : Float) (k : ℕ) → length xs / 4 ≤ k → leastFrom least k ≡ least
-    least-end least k h = ap (leastKey p least) (segments-end xs k h) ∙ least-none least
+    pub least_end : (least : Float) (k : ℕ) → length xs / 4 ≤ k → least_from least k ≡ least
+    least_end least k h = ap (least_key p least) (segments_end xs k h) ∙ least_none least
 
     -- the next segment is nearer, or it is not
-    module _ (least key : Float) (k : ℕ) (more : k < length xs / 4) (is : key ≡ keyTo p (segmentAt xs k)) where
-      chosen-by : (t : Bool) → lt key least ≡ t → leastFrom least k ≡ leastFrom (cond t key least) (k + 1)
-      chosen-by t e = least-step least k more ∙ ap (λ (y : Float). leastFrom y (k + 1)) (ap (smallerOf least) (sym is) ∙ smaller-by-test least key ∙ ap (λ (b : Bool). cond b key least) e)
+    module _ (least key : Float) (k : ℕ) (more : k < length xs / 4) (is : key ≡ key_to p (segment_at xs k)) where
+      chosen_by : (t : Bool) → lt key least ≡ t → least_from least k ≡ least_from (cond t key least) (k + 1)
+      chosen_by t e = least_step_lem least k more ∙ ap (λ (y : Float). least_from y (k + 1)) (ap (smaller_of least) (sym is) ∙ smaller_by_test least key ∙ ap (λ (b : Bool). cond b key least) e)
 
-      pub least-nearer : lt key least ≡ true → leastFrom least k ≡ leastFrom key (k + 1)
-      least-nearer e = chosen-by true e
+      pub least_nearer : lt key least ≡ true → least_from least k ≡ least_from key (k + 1)
+      least_nearer e = chosen_by true e
 
-      pub least-farther : lt key least ≡ false → leastFrom least k ≡ leastFrom least (k + 1)
-      least-farther e = chosen-by false e
+      pub least_farther : lt key least ≡ false → least_from least k ≡ least_from least (k + 1)
+      least_farther e = chosen_by false e
 
     -- ---- it is not above the key of the segment in place k
 
-    module _ (k : ℕ) (more : k < length xs / 4) (number : T (not (is_nan (keyTo p (segmentAt xs k))))) where
-      here : (least : Float) → Key least → T (not (is_nan least)) → T (le (leastFrom least k) (keyTo p (segmentAt xs k)))
+    module _ (k : ℕ) (more : k < length xs / 4) (number : T (not (is_nan (key_to p (segment_at xs k))))) where
+      here : (least : Float) → Key least → T (not (is_nan least)) → T (le (least_from least k) (key_to p (segment_at xs k)))
       here least h n =
-          let key = keyTo p (segmentAt xs k) in
-          let m = smallerOf least key in
-          let g : Key m = smaller-key least key h (key-of (segmentAt xs k)) in
-          let rest = segmentsIn (drop (4 * (k + 1)) xs) in
-          subst (λ (x : Float). T (le x key)) (sym (least-step least k more))
-          (le-trans binary64 (leastKey p m rest) m key (least-key rest m g).held g.held (key-of (segmentAt xs k)).held (least-le-start rest m g (smaller-number least key n)) (smaller-le-second least key n number))
+          let key = key_to p (segment_at xs k) in
+          let m = smaller_of least key in
+          let g : Key m = smaller_key least key h (key_of_lem (segment_at xs k)) in
+          let rest = segments_in (drop (4 * (k + 1)) xs) in
+          subst (λ (x : Float). T (le x key)) (sym (least_step_lem least k more))
+          (float_le_trans binary64 (least_key p m rest) m key (least_key_lem rest m g).held g.held (key_of_lem (segment_at xs k)).held (least_le_start rest m g (smaller_number least key n)) (smaller_le_second least key n number))
 
-      before : (n j : ℕ) → n + j ≡ k → (least : Float) → Key least → T (not (is_nan least)) → T (le (leastFrom least j) (keyTo p (segmentAt xs k)))
+      before : (n j : ℕ) → n + j ≡ k → (least : Float) → Key least → T (not (is_nan least)) → T (le (least_from least j) (key_to p (segment_at xs k)))
       before zero j e least h o =
           let f : k ≡ j = omega arith in
-          subst (λ (i : ℕ). T (le (leastFrom least i) (keyTo p (segmentAt xs k)))) f (here least h o)
+          subst (λ (i : ℕ). T (le (least_from least i) (key_to p (segment_at xs k)))) f (here least h o)
       before (suc n) j e least h o =
-          let key = keyTo p (segmentAt xs j) in
-          subst (λ (x : Float). T (le x (keyTo p (segmentAt xs k)))) (sym (least-step least j (omega arith)))
-          (before n (j + 1) (omega arith) (smallerOf least key) (smaller-key least key h (key-of (segmentAt xs j))) (smaller-number least key o))
+          let key = key_to p (segment_at xs j) in
+          subst (λ (x : Float). T (le x (key_to p (segment_at xs k)))) (sym (least_step_lem least j (omega arith)))
+          (before n (j + 1) (omega arith) (smaller_of least key) (smaller_key least key h (key_of_lem (segment_at xs j))) (smaller_number least key o))
 
     -- ---- a segment that stops the scan
 
-    inf-number : T (not (is_nan (inf false)))
+    inf_number : T (not (is_nan (inf false)))
     unfolding is_nan
-    inf-number = tt
+    inf_number = tt
 
-    pub stopped : (bar : Float) (k : ℕ) → fits binary64 bar ≡ true → stopsAt p bar k xs ≡ true → bar ≡ largerOf bar (leastKey p (inf false) (segmentsIn xs))
-    unfolding stopsAt
+    pub stopped : (bar : Float) (k : ℕ) → fits binary64 bar ≡ true → stops_at p bar k xs ≡ true → bar ≡ larger_of bar (least_key p (inf false) (segments_in xs))
+    unfolding stops_at
     stopped bar k fit e =
-        let key = keyTo p (segmentAt xs k) in
+        let key = key_to p (segment_at xs k) in
         let tests = both (ltb k (length xs / 4)) (le key bar) e in
         let near : T (le key bar) = subst T (sym tests.1) tt in
-        let all = leastKey p (inf false) (segmentsIn xs) in
-        let least : T (le all key) = before k (ltb-true k (length xs / 4) tests.0) (le-left key bar near) k 0 (omega arith) (inf false) inf-key inf-number in
-        sym (larger-stays bar all (le-trans binary64 all key bar (least-key (segmentsIn xs) (inf false) inf-key).held (key-of (segmentAt xs k)).held (holds (fits binary64 bar) fit) least near))
+        let all = least_key p (inf false) (segments_in xs) in
+        let least : T (le all key) = before k (ltb-true k (length xs / 4) tests.0) (le_left key bar near) k 0 (omega arith) (inf false) inf_key inf_number in
+        sym (larger_stays bar all (float_le_trans binary64 all key bar (least_key_lem (segments_in xs) (inf false) inf_key).held (key_of_lem (segment_at xs k)).held (holds (fits binary64 bar) fit) least near))
 
-    pub stops-here : (bar key : Float) (k : ℕ) → k < length xs / 4 → key ≡ keyTo p (segmentAt xs k) → le key bar ≡ true → stopsAt p bar k xs ≡ true
-    unfolding stopsAt
-    stops-here bar key k h is near = rw (lt-ltb k (length xs / 4) h, ← is) near
+    pub stops_here : (bar key : Float) (k : ℕ) → k < length xs / 4 → key ≡ key_to p (segment_at xs k) → le key bar ≡ true → stops_at p bar k xs ≡ true
+    unfolding stops_at
+    stops_here bar key k h is near = rw (lt-ltb k (length xs / 4) h, ← is) near

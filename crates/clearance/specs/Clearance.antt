@@ -4,9 +4,9 @@ use Rattle.std.specs.Prelude.{Bool, true, false, cond, Float}
 use mathlib.Core.List.{List, foldl}
 use Rattle.std.specs.Float.{binary64}
 use Rattle.std.specs.Float.Ieee.{add, sub, mul, div, lt}
-use Rattle.leaves.specs.Bounds.{smallerOf, clampOf}
-use Rattle.leaves.specs.Constants.{plusZero, one}
-use Rattle.leaves.specs.Hypot.{hypotOf}
+use Rattle.leaves.specs.Bounds.{smaller_of, clamp_of}
+use Rattle.leaves.specs.Constants.{plus_zero, one}
+use Rattle.leaves.specs.Hypot.{hypot_of}
 use Rattle.sheet.specs.Content.{Point, point}
 use Rattle.points.specs.Segments.{gained, middle, Between, Segment, segment, segments}
 use Rattle.points.specs.Turns.{turns}
@@ -20,15 +20,15 @@ laid true period s = segment s.a (point (gained period s) s.b.v)
 laid false period s = s
 
 -- "then both", of a segment whose b has moved, for the points at u
-unfoldable pub shiftedTo : Float → Float → Segment → Segment
+unfoldable pub shifted_to : Float → Float → Segment → Segment
 unfolding add sub turns
-shiftedTo period u s =
+shifted_to period u s =
     segment (point (add binary64 s.a.u (turns (sub binary64 u (middle s.a.u s.b.u)) period)) s.a.v)
     (point (add binary64 s.b.u (turns (sub binary64 u (middle s.a.u s.b.u)) period)) s.b.v)
 
 unfoldable pub copy : Bool → Float → Point → Segment → Segment
-unfolding shiftedTo laid
-copy true period p s = shiftedTo period p.u (laid true period s)
+unfolding shifted_to laid
+copy true period p s = shifted_to period p.u (laid true period s)
 copy false period p s = s
 
 -- ---- "d = b − a; t = ((p − a)·d / d·d) clamped to 0..1, 0 if d·d is 0; hypot of p − a − t×d"
@@ -37,17 +37,17 @@ unfoldable pub delta : Segment → Point
 unfolding sub
 delta s = point (sub binary64 s.b.u s.a.u) (sub binary64 s.b.v s.a.v)
 
-unfoldable pub dotOf : Point → Point → Float
+unfoldable pub dot_of : Point → Point → Float
 unfolding add mul
-dotOf x y = add binary64 (mul binary64 x.u y.u) (mul binary64 x.v y.v)
+dot_of x y = add binary64 (mul binary64 x.u y.u) (mul binary64 x.v y.v)
 
 -- where along the segment the nearest point lies; the Rust asks d·d > 0
 unfoldable pub along : Point → Segment → Float
-unfolding lt dotOf delta sub div
+unfolding lt dot_of delta sub div
 along p s =
-    cond (lt plusZero (dotOf (delta s) (delta s)))
-    (clampOf (div binary64 (dotOf (point (sub binary64 p.u s.a.u) (sub binary64 p.v s.a.v)) (delta s)) (dotOf (delta s) (delta s))) plusZero one)
-    plusZero
+    cond (lt plus_zero (dot_of (delta s) (delta s)))
+    (clamp_of (div binary64 (dot_of (point (sub binary64 p.u s.a.u) (sub binary64 p.v s.a.v)) (delta s)) (dot_of (delta s) (delta s))) plus_zero one)
+    plus_zero
 
 unfoldable pub residual : Point → Segment → Point
 unfolding sub mul along delta
@@ -56,14 +56,14 @@ residual p s =
 
 unfoldable pub distance : Bool → Float → Point → Segment → Float
 unfolding residual copy
-distance periodic period p s = hypotOf (residual p (copy periodic period p s)).u (residual p (copy periodic period p s)).v
+distance periodic period p s = hypot_of (residual p (copy periodic period p s)).u (residual p (copy periodic period p s)).v
 
 -- ---- "Clearance: least distance to a segment": the least of `so far` and the distances to the segments of one ring
 
-unfoldable pub leastOf : {A : Type 0} → (Between A → Float) → Float → List A → Float
+unfoldable pub least_of : {A : Type 0} → (Between A → Float) → Float → List A → Float
 unfolding segments
-leastOf {A} distance so_far ring = foldl (λ (d : Float) (s : Between A). smallerOf d (distance s)) so_far (segments ring)
+least_of {A} distance so_far ring = foldl (λ (d : Float) (s : Between A). smaller_of d (distance s)) so_far (segments ring)
 
 unfoldable pub nearer : Bool → Float → Point → Float → List Point → Float
-unfolding leastOf distance
-nearer periodic period p so_far ring = leastOf (distance periodic period p) so_far ring
+unfolding least_of distance
+nearer periodic period p so_far ring = least_of (distance periodic period p) so_far ring

@@ -1,30 +1,30 @@
 -- A second form of rule 8, which the code works by: the key of the distance to one segment, and the least over a list
--- of them. Keys order as distances do, so one root is taken for many segments. The law `chosen-is`
+-- of them. Keys order as distances do, so one root is taken for many segments. The law `chosen_is`
 -- (crates/chart/proofs/Choosing.antt) joins it to the first form, which is Clearance.
 use Rattle.std.specs.Prelude.{Bool, true, ◌&&◌, ◌≡◌, ℕ, ◌/◌, ◌<◌, ltb, Float, length}
 use mathlib.Core.List.{List, foldl}
 use Rattle.std.specs.Float.Ieee.{le}
-use Rattle.leaves.specs.Bounds.{smallerOf}
-use Rattle.leaves.specs.Hypot.{keyOf}
+use Rattle.leaves.specs.Bounds.{smaller_of}
+use Rattle.leaves.specs.Hypot.{key_of}
 use Rattle.sheet.specs.Content.{Point}
 use Rattle.clearance.specs.Clearance.{residual}
 use Rattle.points.specs.Segments.{Segment}
-use Rattle.clearance.specs.SegmentLists.{segmentAt}
+use Rattle.clearance.specs.SegmentLists.{segment_at}
 
-unfoldable pub keyTo : Point → Segment → Float
+unfoldable pub key_to : Point → Segment → Float
 unfolding residual
-keyTo p s = keyOf (residual p s).u (residual p s).v
+key_to p s = key_of (residual p s).u (residual p s).v
 
 -- the least of `so far` and the keys of the segments
-unfoldable pub leastKey : Point → Float → List Segment → Float
-unfolding keyTo
-leastKey p so_far ss = foldl (λ (k : Float) (s : Segment). smallerOf k (keyTo p s)) so_far ss
+unfoldable pub least_key : Point → Float → List Segment → Float
+unfolding key_to
+least_key p so_far ss = foldl (λ (k : Float) (s : Segment). smaller_of k (key_to p s)) so_far ss
 
 -- whether there is a segment in place k whose key is not above `bar`
-unfoldable pub stopsAt : Point → Float → ℕ → List Float → Bool
-unfolding keyTo le
-stopsAt p bar k xs = ltb k (length xs / 4) && le (keyTo p (segmentAt xs k)) bar
+unfoldable pub stops_at : Point → Float → ℕ → List Float → Bool
+unfolding key_to le
+stops_at p bar k xs = ltb k (length xs / 4) && le (key_to p (segment_at xs k)) bar
 
 -- a place past the list's segments, or that of one that stops
 abbrev pub Stop : Point → Float → ℕ → List Float → Type 0
-Stop p bar k xs = k < length xs / 4 → stopsAt p bar k xs ≡ true
+Stop p bar k xs = k < length xs / 4 → stops_at p bar k xs ≡ true

@@ -3,10 +3,10 @@
 // that stopped the grid points nearby, those beside them, and one of each coedge.
 ghost use Rattle.std.specs.Prelude.{◌≡◌, false, ◌+◌, ◌*◌, ◌<◌, length};
 ghost use Rattle.std.specs.Float.{inf};
-ghost use Rattle.leaves.specs.Bounds.{largerOf};
+ghost use Rattle.leaves.specs.Bounds.{larger_of};
 ghost use Rattle.sheet.specs.Content.{point};
-ghost use Rattle.clearance.specs.Nearest.{keyTo, leastKey, stopsAt, Stop};
-ghost use Rattle.clearance.specs.SegmentLists.{segmentsIn, segmentAt};
+ghost use Rattle.clearance.specs.Nearest.{key_to, least_key, stops_at, Stop};
+ghost use Rattle.clearance.specs.SegmentLists.{segments_in, segment_at};
 
 use crate::segment_list::NUMBERS;
 use crate::straight::straight_key;
@@ -25,7 +25,7 @@ pub struct Near {
 // The key of the distance from (u, v) to the segment in place k.
 fn key_at(u: f64, v: f64, list: &[f64], k: usize) -> f64
     requires { 4 * k + 3 < length list.now }
-    ensures { result ≡ keyTo (point u v) (segmentAt list.now k) }
+    ensures { result ≡ key_to (point u v) (segment_at list.now k) }
 {
     let at = NUMBERS * k;
     let a_u = list[at];
@@ -37,7 +37,7 @@ fn key_at(u: f64, v: f64, list: &[f64], k: usize) -> f64
 
 // Whether there is a segment in place k whose key is not above `bar`.
 fn stops(u: f64, v: f64, bar: f64, k: usize, list: &[f64]) -> bool
-    ensures { result ≡ stopsAt (point u v) bar k list.now }
+    ensures { result ≡ stops_at (point u v) bar k list.now }
 {
     if k < list.len() / NUMBERS {
         key_at(u, v, list, k) <= bar
@@ -48,7 +48,7 @@ fn stops(u: f64, v: f64, bar: f64, k: usize, list: &[f64]) -> bool
 
 // All segments from the first on, up to one that settles it.
 fn scan(u: f64, v: f64, bar: f64, list: &[f64]) -> Near
-    ensures { result.key ≡ largerOf bar (leastKey (point u v) (inf false) (segmentsIn list.now)) }
+    ensures { result.key ≡ larger_of bar (least_key (point u v) (inf false) (segments_in list.now)) }
 {
     let count = list.len() / NUMBERS;
     let mut least = 1.0 / 0.0;
@@ -140,7 +140,7 @@ fn likely_stop(u: f64, v: f64, bar: f64, first: usize, second: usize, list: &[f6
 
 // The larger of `bar` and the least key of all segments.
 pub fn nearest(u: f64, v: f64, bar: f64, first: usize, second: usize, list: &[f64]) -> Near
-    ensures { result.key ≡ largerOf bar (leastKey (point u v) (inf false) (segmentsIn list.now)) }
+    ensures { result.key ≡ larger_of bar (least_key (point u v) (inf false) (segments_in list.now)) }
 {
     let place = likely_stop(u, v, bar, first, second, list);
     if place < list.len() / NUMBERS {

@@ -2,9 +2,9 @@
 ghost use Rattle.std.specs.Prelude.{◌≡◌, [], ◌∷◌, map};
 ghost use Rattle.sheet.specs.Content.{point, pairs, flat};
 ghost use Rattle.answers.specs.Lists.{over};
-ghost use Rattle.points.specs.Segments.{segment, segments as segmentsOf};
+ghost use Rattle.points.specs.Segments.{segment, segments as segments_of};
 ghost use Rattle.clearance.specs.Clearance.{laid};
-ghost use Rattle.clearance.specs.SegmentLists.{endsOf};
+ghost use Rattle.clearance.specs.SegmentLists.{ends_of};
 
 // How many numbers a segment has.
 pub const NUMBERS: usize = 4;
@@ -34,7 +34,7 @@ fn moved_end(periodic: bool, period: f64, a_u: f64, a_v: f64, b_u: f64, b_v: f64
 // A segment over the first four of `places`, whose tail keeps its contents; a list that is too short for it
 // stays as it is.
 pub fn put(a_u: f64, a_v: f64, b_u: f64, b_v: f64, places: &mut [f64])
-    ensures { places.new ≡ over (flat (endsOf (segment (point a_u a_v) (point b_u b_v) ∷ []))) places.old }
+    ensures { places.new ≡ over (flat (ends_of (segment (point a_u a_v) (point b_u b_v) ∷ []))) places.old }
 {
     if places.len() < NUMBERS {
         return;
@@ -48,7 +48,7 @@ pub fn put(a_u: f64, a_v: f64, b_u: f64, b_v: f64, places: &mut [f64])
 // The segments of a ring over the front of `list`, whose tail keeps its contents; a list that is too
 // short for them stays as it is.
 pub fn lay(periodic: bool, period: f64, ring: &[f64], list: &mut [f64])
-    ensures { list.new ≡ over (flat (endsOf (map (laid periodic period) (segmentsOf (pairs ring.now))))) list.old }
+    ensures { list.new ≡ over (flat (ends_of (map (laid periodic period) (segments_of (pairs ring.now))))) list.old }
 {
     let count = ring.len() / 2;
     if list.len() / NUMBERS < count {

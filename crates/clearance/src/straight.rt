@@ -1,14 +1,14 @@
 // Rule 8 on one segment. Distances are compared by the leaves' key; the root of the least is the caller's.
 ghost use Rattle.std.specs.Prelude.{◌≡◌};
 ghost use Rattle.sheet.specs.Content.{point};
-ghost use Rattle.points.specs.Segments.{segmentOf};
-ghost use Rattle.clearance.specs.Nearest.{keyTo};
+ghost use Rattle.points.specs.Segments.{segment_of};
+ghost use Rattle.clearance.specs.Nearest.{key_to};
 
 use points::Segment;
 
 // The key of the distance from (u, v) to the segment.
 pub(crate) fn straight_key(u: f64, v: f64, s: Segment) -> f64
-    ensures { result ≡ keyTo (point u v) (segmentOf s) }
+    ensures { result ≡ key_to (point u v) (segment_of s) }
 {
     let a_u = s.a_u;
     let a_v = s.a_v;

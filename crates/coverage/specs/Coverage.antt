@@ -8,7 +8,7 @@ use Rattle.std.specs.Float.Ieee.{add, sub, mul, div, lt}
 use Rattle.sheet.specs.Content.{Point}
 use Rattle.points.specs.Segments.{Segment, segments, gained, middle}
 use Rattle.points.specs.Turns.{turns}
-use Rattle.inside.specs.Inside.{insideOf}
+use Rattle.inside.specs.Inside.{inside_of}
 use Rattle.frame.specs.declared.framing.Frame.{Frame}
 
 -- ---- "Periodic, `periodic_winding`, on each segment from a to the next point b: b.u gains round((a.u − b.u)/P) × P; w
@@ -23,21 +23,21 @@ step pv au av bu bv w =
     (cond (lt au bu) (pos 1) (negsuc 0))
     (pos 0)
 
-unfoldable pub stepOf : Float → Point → Segment → ℤ
+unfoldable pub step_of : Float → Point → Segment → ℤ
 unfolding gained step turns add sub
-stepOf period p s =
+step_of period p s =
     step p.v s.a.u s.a.v (gained period s) s.b.v
     (add binary64 p.u (turns (sub binary64 (middle s.a.u (gained period s)) p.u) period))
 
-unfoldable pub windingOf : Float → Point → List Point → ℤ
-unfolding stepOf segments
-windingOf period p ring = foldl (λ (n : ℤ) (s : Segment). n +ℤ stepOf period p s) (pos 0) (segments ring)
+unfoldable pub winding_of : Float → Point → List Point → ℤ
+unfolding step_of segments
+winding_of period p ring = foldl (λ (n : ℤ) (s : Segment). n +ℤ step_of period p s) (pos 0) (segments ring)
 
 -- ---- crossings of one ring: "the number" of rings with `inside`, or "the sum over all rings" of the winding
 unfoldable pub crossing : Bool → Float → Point → List Point → ℤ
-unfolding windingOf insideOf
-crossing true period p ring = windingOf period p ring
-crossing false period p ring = cond (insideOf ring p) (pos 1) (pos 0)
+unfolding winding_of inside_of
+crossing true period p ring = winding_of period p ring
+crossing false period p ring = cond (inside_of ring p) (pos 1) (pos 0)
 
 -- ---- over all rings of a frame
 
@@ -51,14 +51,14 @@ unfoldable pub oddℤ : ℤ → Bool
 oddℤ n = eqb (nat_abs n % 2) 1
 
 -- "on a band the sum must also be positive (sense 1) or negative (sense 2); sense 0 covers nothing"
-unfoldable pub onSide : ℕ → ℤ → Bool
-onSide sense (pos n) = eqb sense 1 && ltb 0 n
-onSide sense (negsuc n) = eqb sense 2
+unfoldable pub on_side : ℕ → ℤ → Bool
+on_side sense (pos n) = eqb sense 1 && ltb 0 n
+on_side sense (negsuc n) = eqb sense 2
 
-unfoldable pub coveredBy : Bool → ℕ → ℤ → Bool
-unfolding oddℤ onSide
-coveredBy band sense n = oddℤ n && (not band || onSide sense n)
+unfoldable pub covered_by : Bool → ℕ → ℤ → Bool
+unfolding oddℤ on_side
+covered_by band sense n = oddℤ n && (not band || on_side sense n)
 
 unfoldable pub covered : Frame → ℕ → List (List Point) → Point → Bool
-unfolding coveredBy crossings
-covered f sense rings p = coveredBy f.band sense (crossings f rings p)
+unfolding covered_by crossings
+covered f sense rings p = covered_by f.band sense (crossings f rings p)

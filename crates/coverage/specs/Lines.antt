@@ -7,9 +7,9 @@ use Rattle.points.specs.Grid.{part}
 use Rattle.points.specs.Turns.{turns}
 
 -- the turns at column i
-abbrev pub turnAt : Float → Float → ℕ → Float
-turnAt period mid i = turns (sub binary64 mid (part i)) period
+abbrev pub turn_at : Float → Float → ℕ → Float
+turn_at period mid i = turns (sub binary64 mid (part i)) period
 
 -- at the columns from i up to t a turn by so much gives the copy of u
 abbrev pub Turning : Float → Float → ℕ → ℕ → Float → Type 0
-Turning period mid i t by = (m : ℕ) → i ≤ m → m ≤ t → add binary64 (part m) (turnAt period mid m) ≡ add binary64 (part m) by
+Turning period mid i t by = (m : ℕ) → i ≤ m → m ≤ t → add binary64 (part m) (turn_at period mid m) ≡ add binary64 (part m) by

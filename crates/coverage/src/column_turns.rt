@@ -2,7 +2,7 @@
 // same between two columns where they are equal. They are worked out once and serve up to a column that was
 // asked. Where the period is at least 1, as on every sheet, they change at one column at most.
 ghost use Rattle.std.specs.Prelude.{◌≡◌, ◌≤◌};
-ghost use Rattle.coverage.specs.Lines.{turnAt, Turning};
+ghost use Rattle.coverage.specs.Lines.{turn_at, Turning};
 
 use points::{keeps_order, part, whole_turns};
 
@@ -15,14 +15,14 @@ pub(crate) struct ColumnTurn {
 
 // The turns at column i of a segment with the middle mid.
 fn turn_at(period: f64, mid: f64, i: u32) -> f64
-    ensures { result ≡ turnAt period mid i }
+    ensures { result ≡ turn_at period mid i }
 {
     whole_turns(mid - part(i), period)
 }
 
 // A column from i on up to which the turns at column i serve: the last one, or one that is found by halves.
 fn turned_until(period: f64, mid: f64, i: u32, by: f64) -> u32
-    requires { (i ≤ 31) × (by ≡ turnAt period mid i) }
+    requires { (i ≤ 31) × (by ≡ turn_at period mid i) }
     ensures { (i ≤ result) × Turning period mid i result by }
 {
     if !keeps_order(period, mid) {

@@ -4,11 +4,11 @@ ghost use Rattle.std.specs.Bool.{xor};
 ghost use mathlib.Core.List.{List, foldl};
 ghost use Rattle.sheet.specs.Content.{Point};
 ghost use Rattle.answers.specs.Lists.{over};
-ghost use Rattle.points.specs.Grid.{gridOf, gridPoint};
-ghost use Rattle.inside.specs.Inside.{insideOf};
-ghost use Rattle.inside.specs.Lines.{Holds, byColumns, byRows};
-ghost use Rattle.frame.specs.Parts.{ringsFrom};
-ghost use Rattle.coverage.specs.Coverage.{windingOf, covered as coveredOf};
+ghost use Rattle.points.specs.Grid.{grid_of, grid_point};
+ghost use Rattle.inside.specs.Inside.{inside_of};
+ghost use Rattle.inside.specs.Lines.{Holds, by_columns, by_rows};
+ghost use Rattle.frame.specs.Parts.{rings_from};
+ghost use Rattle.coverage.specs.Coverage.{winding_of, covered as covered_of};
 
 use crate::marks::{GRID_POINTS, mark_flips, mark_windings};
 use crate::winding::add_ring;
@@ -35,7 +35,7 @@ fn place(at: usize, low: usize, high: usize) -> usize
 // Adds up the windings of all rings at every grid point, over cells of zeros in the grid's order.
 fn add_rings(period: f64, points: &[f64], ends: &[usize], cells: &mut [i64])
     requires { (length points.now ≤ 4352) × (length ends.now ≤ 256) × (cells.old ≡ replicate 961 (pos 0)) }
-    ensures { Holds (pos 0) 961 cells.new (λ (k : ℕ). foldl (λ (n : ℤ) (ring : List Point). n +ℤ windingOf period (byColumns k) ring) (pos 0) (ringsFrom 0 ends.now points.now)) }
+    ensures { Holds (pos 0) 961 cells.new (λ (k : ℕ). foldl (λ (n : ℤ) (ring : List Point). n +ℤ winding_of period (by_columns k) ring) (pos 0) (rings_from 0 ends.now points.now)) }
 {
     let count = points.len();
     let mut from = 0usize;
@@ -53,7 +53,7 @@ fn add_rings(period: f64, points: &[f64], ends: &[usize], cells: &mut [i64])
 // Flips each grid point once for each ring that it is inside of, over cells that say no, row after row.
 fn flip_rings(points: &[f64], ends: &[usize], cells: &mut [bool])
     requires { cells.old ≡ replicate 961 false }
-    ensures { Holds false 961 cells.new (λ (k : ℕ). foldl (λ (t : Bool) (ring : List Point). xor t (insideOf ring (byRows k))) false (ringsFrom 0 ends.now points.now)) }
+    ensures { Holds false 961 cells.new (λ (k : ℕ). foldl (λ (t : Bool) (ring : List Point). xor t (inside_of ring (by_rows k))) false (rings_from 0 ends.now points.now)) }
 {
     let count = points.len();
     let mut from = 0usize;
@@ -71,7 +71,7 @@ fn flip_rings(points: &[f64], ends: &[usize], cells: &mut [bool])
 // Marks the covered grid points of a periodic chart, by the sum of the windings.
 fn cover_by_winding(f: Frame, sense: u8, points: &[f64], ends: &[usize], covered: &mut [bool])
     requires { (f.periodic ≡ true) × (length points.now ≤ 4352) × (length ends.now ≤ 256) × (length covered.old ≡ 961) }
-    ensures { covered.new ≡ gridOf (λ (i j : ℕ). coveredOf f sense (ringsFrom 0 ends.now points.now) (gridPoint i j)) }
+    ensures { covered.new ≡ grid_of (λ (i j : ℕ). covered_of f sense (rings_from 0 ends.now points.now) (grid_point i j)) }
 {
     let mut sums = [0i64; 961];
     add_rings(f.period, points, ends, &mut sums);
@@ -82,7 +82,7 @@ fn cover_by_winding(f: Frame, sense: u8, points: &[f64], ends: &[usize], covered
 // asked, since an odd number of rings is above 0.
 fn cover_by_inside(f: Frame, sense: u8, points: &[f64], ends: &[usize], covered: &mut [bool])
     requires { (f.periodic ≡ false) × (length covered.old ≡ 961) }
-    ensures { covered.new ≡ gridOf (λ (i j : ℕ). coveredOf f sense (ringsFrom 0 ends.now points.now) (gridPoint i j)) }
+    ensures { covered.new ≡ grid_of (λ (i j : ℕ). covered_of f sense (rings_from 0 ends.now points.now) (grid_point i j)) }
 {
     let mut cells = [false; 961];
     flip_rings(points, ends, &mut cells);
@@ -92,7 +92,7 @@ fn cover_by_inside(f: Frame, sense: u8, points: &[f64], ends: &[usize], covered:
 // Marks the covered grid points, by the chart's kind.
 fn cover_grid(f: Frame, sense: u8, points: &[f64], ends: &[usize], covered: &mut [bool])
     requires { (length points.now ≤ 4352) × (length ends.now ≤ 256) × (length covered.old ≡ 961) }
-    ensures { covered.new ≡ gridOf (λ (i j : ℕ). coveredOf f sense (ringsFrom 0 ends.now points.now) (gridPoint i j)) }
+    ensures { covered.new ≡ grid_of (λ (i j : ℕ). covered_of f sense (rings_from 0 ends.now points.now) (grid_point i j)) }
 {
     if f.periodic {
         cover_by_winding(f, sense, points, ends, covered);
@@ -104,7 +104,7 @@ fn cover_grid(f: Frame, sense: u8, points: &[f64], ends: &[usize], covered: &mut
 // Whether each grid point is covered, over the front of `covered`, whose tail keeps its contents; a list that is too
 // short for the grid stays as it is. The rings' numbers stand one ring behind the other, each ring's up to its end.
 pub fn cover(f: Frame, sense: u8, points: &[f64], ends: &[usize], covered: &mut [bool])
-    ensures { covered.new ≡ over (gridOf (λ (i j : ℕ). coveredOf f sense (ringsFrom 0 (take 256 ends.now) (take 4352 points.now)) (gridPoint i j))) covered.old }
+    ensures { covered.new ≡ over (grid_of (λ (i j : ℕ). covered_of f sense (rings_from 0 (take 256 ends.now) (take 4352 points.now)) (grid_point i j))) covered.old }
 {
     if covered.len() < GRID_POINTS {
         return;

@@ -1,7 +1,7 @@
 // Rule 7 over all rings: whether a grid point's crossings cover it.
 ghost use Rattle.std.specs.Prelude.{◌≡◌, false, cond, ℕ, ◌+◌, ◌<◌, pos, length, get_or};
-ghost use Rattle.inside.specs.Lines.{Holds, inRows};
-ghost use Rattle.coverage.specs.Coverage.{oddℤ, onSide, coveredBy};
+ghost use Rattle.inside.specs.Lines.{Holds, in_rows};
+ghost use Rattle.coverage.specs.Coverage.{oddℤ, on_side, covered_by};
 
 // The number of grid points.
 pub(crate) const GRID_POINTS: usize = 961;
@@ -15,7 +15,7 @@ fn is_odd(n: i64) -> bool
 
 // On a band: positive for sense 1, negative for sense 2, nothing for sense 0.
 fn on_side(sense: u8, n: i64) -> bool
-    ensures { result ≡ onSide sense n }
+    ensures { result ≡ on_side sense n }
 {
     if n < 0 {
         sense == 2
@@ -28,7 +28,7 @@ fn on_side(sense: u8, n: i64) -> bool
 
 // Whether a grid point with these crossings is covered.
 fn is_covered(band: bool, sense: u8, n: i64) -> bool
-    ensures { result ≡ coveredBy band sense n }
+    ensures { result ≡ covered_by band sense n }
 {
     if is_odd(n) {
         if band { on_side(sense, n) } else { true }
@@ -40,7 +40,7 @@ fn is_covered(band: bool, sense: u8, n: i64) -> bool
 // Marks each grid point that its sum of windings covers. Both lists stand in the grid's order.
 pub(crate) fn mark_windings(band: bool, sense: u8, sums: &[i64], covered: &mut [bool])
     requires { (length sums.now ≡ 961) × (length covered.old ≡ 961) }
-    ensures { Holds false 961 covered.new (λ (k : ℕ). coveredBy band sense (get_or sums.now k (pos 0))) }
+    ensures { Holds false 961 covered.new (λ (k : ℕ). covered_by band sense (get_or sums.now k (pos 0))) }
 {
     let mut k = 0usize;
     while k < GRID_POINTS {
@@ -53,7 +53,7 @@ pub(crate) fn mark_windings(band: bool, sense: u8, sums: &[i64], covered: &mut [
 // row further, and after the last row in the first one again, a point further.
 fn next_row(at: usize) -> usize
     requires { at < 961 }
-    ensures { (k : ℕ) → k < 961 → at ≡ inRows k → result ≡ inRows (k + 1) }
+    ensures { (k : ℕ) → k < 961 → at ≡ in_rows k → result ≡ in_rows (k + 1) }
 {
     if at < 930 { at + 31 } else { at - 929 }
 }
@@ -62,7 +62,7 @@ fn next_row(at: usize) -> usize
 // stand row after row, the marks in the grid's order.
 pub(crate) fn mark_flips(band: bool, sense: u8, cells: &[bool], covered: &mut [bool])
     requires { (length cells.now ≡ 961) × (length covered.old ≡ 961) }
-    ensures { Holds false 961 covered.new (λ (k : ℕ). coveredBy band sense (cond (get_or cells.now (inRows k) false) (pos 1) (pos 0))) }
+    ensures { Holds false 961 covered.new (λ (k : ℕ). covered_by band sense (cond (get_or cells.now (in_rows k) false) (pos 1) (pos 0))) }
 {
     let mut at = 0usize;
     let mut k = 0usize;

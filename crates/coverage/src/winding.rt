@@ -4,9 +4,9 @@ ghost use Rattle.std.specs.Prelude.{◌≡◌, cond, ℕ, ◌+◌, ◌^◌, ◌�
 ghost use Rattle.std.specs.Float.Ieee.{lt};
 ghost use Rattle.sheet.specs.Content.{point, pairs};
 ghost use Rattle.points.specs.Segments.{segment};
-ghost use Rattle.points.specs.Grid.{part as partOf};
-ghost use Rattle.inside.specs.Lines.{Holds, byColumns};
-ghost use Rattle.coverage.specs.Coverage.{step, stepOf, windingOf};
+ghost use Rattle.points.specs.Grid.{part as part_of};
+ghost use Rattle.inside.specs.Lines.{Holds, by_columns};
+ghost use Rattle.coverage.specs.Coverage.{step, step_of, winding_of};
 
 use crate::column_turns::{ColumnTurn, turned};
 use inside::just_one_above;
@@ -22,7 +22,7 @@ fn direction(a: f64, b: f64) -> i64
 // Adds `by` to the cells of a column that are above the threshold.
 fn add_above(threshold: f64, by: i64, column: &mut [i64])
     requires { (length column.old ≡ 31) × (nat_abs by ≤ 1) × ((m : ℕ) → m < 31 → nat_abs (get_or column.old m (pos 0)) < 2 ^ 62) }
-    ensures { Holds (pos 0) 31 column.new (λ (m : ℕ). get_or column.old m (pos 0) +ℤ cond (lt threshold (partOf (m + 1))) by (pos 0)) }
+    ensures { Holds (pos 0) 31 column.new (λ (m : ℕ). get_or column.old m (pos 0) +ℤ cond (lt threshold (part_of (m + 1))) by (pos 0)) }
 {
     let mut m: u32 = 0;
     while m < 31 {
@@ -38,7 +38,7 @@ fn add_above(threshold: f64, by: i64, column: &mut [i64])
 // copy w of the column's u.
 fn add_column(a_u: f64, a_v: f64, b_u: f64, b_v: f64, w: f64, column: &mut [i64])
     requires { (length column.old ≡ 31) × ((m : ℕ) → m < 31 → nat_abs (get_or column.old m (pos 0)) < 2 ^ 62) }
-    ensures { Holds (pos 0) 31 column.new (λ (m : ℕ). get_or column.old m (pos 0) +ℤ step (partOf (m + 1)) a_u a_v b_u b_v w) }
+    ensures { Holds (pos 0) 31 column.new (λ (m : ℕ). get_or column.old m (pos 0) +ℤ step (part_of (m + 1)) a_u a_v b_u b_v w) }
 {
     if just_one_above(a_u, b_u, w) {
         let threshold = a_v + (b_v - a_v) * (w - a_u) / (b_u - a_u);
@@ -50,7 +50,7 @@ fn add_column(a_u: f64, a_v: f64, b_u: f64, b_v: f64, w: f64, column: &mut [i64]
 // side by side.
 fn add_segment(period: f64, a_u: f64, a_v: f64, b_u: f64, b_v: f64, cells: &mut [i64])
     requires { (length cells.old ≡ 961) × ((k : ℕ) → k < 961 → nat_abs (get_or cells.old k (pos 0)) < 2 ^ 62) }
-    ensures { Holds (pos 0) 961 cells.new (λ (k : ℕ). get_or cells.old k (pos 0) +ℤ stepOf period (byColumns k) (segment (point a_u a_v) (point b_u b_v))) }
+    ensures { Holds (pos 0) 961 cells.new (λ (k : ℕ). get_or cells.old k (pos 0) +ℤ step_of period (by_columns k) (segment (point a_u a_v) (point b_u b_v))) }
 {
     let far = b_u + whole_turns(a_u - b_u, period);
     let mid = (a_u + far) / 2.0;
@@ -69,7 +69,7 @@ fn add_segment(period: f64, a_u: f64, a_v: f64, b_u: f64, b_v: f64, cells: &mut 
 // Adds the winding of a ring to every cell.
 pub(crate) fn add_ring(period: f64, ring: &[f64], cells: &mut [i64])
     requires { (length cells.old ≡ 961) × ((k : ℕ) → k < 961 → nat_abs (get_or cells.old k (pos 0)) < 2 ^ 61) }
-    ensures { Holds (pos 0) 961 cells.new (λ (k : ℕ). get_or cells.old k (pos 0) +ℤ windingOf period (byColumns k) (pairs ring.now)) }
+    ensures { Holds (pos 0) 961 cells.new (λ (k : ℕ). get_or cells.old k (pos 0) +ℤ winding_of period (by_columns k) (pairs ring.now)) }
 {
     let count = ring.len() / 2;
     if count == 0 {

@@ -3,8 +3,8 @@
 use Rattle.std.specs.Prelude.{List, ℕ}
 use Rattle.answers.specs.declared.outcomes.Answer.{Answer}
 use Rattle.answers.specs.declared.outcomes.Answer.TheVariants.{Point, Refused}
-use Rattle.text.specs.Line.{pointLine, refusalLine}
+use Rattle.text.specs.Line.{point_line, refusal_line}
 
-unfoldable pub lineOf : Answer → List ℕ
-lineOf (Point x y z clearance count) = pointLine x y z clearance count
-lineOf (Refused number) = refusalLine number
+unfoldable pub line_of : Answer → List ℕ
+line_of (Point x y z clearance count) = point_line x y z clearance count
+line_of (Refused number) = refusal_line number

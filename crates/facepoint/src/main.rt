@@ -6,9 +6,9 @@
 
 ghost use Rattle.std.specs.Prelude.{◌≡◌, eqb, length, take};
 ghost use Rattle.text.specs.Page.{IsPrefixLen};
-ghost use Rattle.answers.specs.Answers.{paper, isPoint};
-ghost use Rattle.facepoint.specs.Answer.{answerTo};
-ghost use Rattle.facepoint.specs.Line.{lineOf};
+ghost use Rattle.answers.specs.Answers.{paper, is_point};
+ghost use Rattle.facepoint.specs.Answer.{answer_to};
+ghost use Rattle.facepoint.specs.Line.{line_of};
 ghost use Rattle.facepoint.specs.Read.{Within};
 
 use answers::Answer;
@@ -48,7 +48,7 @@ fn read_input<R: Read>(reader: &mut R, buffer: &mut [u8]) -> Input
 
 // The plane pick of the input, or 1 where it is too long.
 fn answer_to(input: &[u8]) -> Answer
-    ensures { (paper result ≡ answerTo input.now) × (isPoint result ≡ eqb (paper result).status 0) }
+    ensures { (paper result ≡ answer_to input.now) × (is_point result ≡ eqb (paper result).status 0) }
 {
     if MOST_BYTES < input.len() {
         return Answer::Refused(1);
@@ -60,7 +60,7 @@ fn answer_to(input: &[u8]) -> Answer
 fn put_line(answer: Answer, page: &mut [u8]) -> usize
     requires { length page.old ≡ 81 }
     ensures prefix_len { IsPrefixLen result page.new }
-    ensures page_after { take result page.new ≡ lineOf answer }
+    ensures page_after { take result page.new ≡ line_of answer }
 {
     match answer {
         Answer::Point(x, y, z, clearance, count) => {

@@ -12,81 +12,81 @@ use lib.Ieee.{Float, binary64, prec, of_bits}
 use lib.Ieee.Scale.{finite}
 use lib.ListN.{length}
 use Rattle.leaves.specs.Constants.{tau}
-use Rattle.leaves.proofs.Choices.{smaller-keeps}
-use Rattle.leaves.proofs.Folds.{All, sum-parts}
-use Rattle.leaves.proofs.Magnitudes.{most-finite, sub-most}
-use Rattle.leaves.proofs.Wraps.{tau-most}
+use Rattle.leaves.proofs.Choices.{smaller_keeps}
+use Rattle.leaves.proofs.Folds.{All, sum_parts}
+use Rattle.leaves.proofs.Magnitudes.{most_finite, sub_most}
+use Rattle.leaves.proofs.Wraps.{tau_most}
 use Rattle.answers.specs.Outcome.{first}
-use Rattle.answers.proofs.Permutations.{all-flatten}
-use Rattle.sheet.specs.Checks.{mostCoedges, ringWrong, layoutChecks, contentChecks}
-use Rattle.sheet.specs.Content.{Point, Coedge, ringPoints, flat}
-use Rattle.sheet.specs.Layout.{sheetOf}
-use Rattle.sheet.proofs.Checked.{coordinateMost, MostPoint, ring-most, checked}
-use Rattle.points.specs.Bounds.{least, greatest, axisOf}
-use Rattle.points.specs.Unroll.{movedRing}
-use Rattle.points.proofs.Flat.{length-flat}
-use Rattle.points.proofs.Reach.{moved-ring-most, least-most, greatest-most}
-use Rattle.frame.specs.Frame.{bandOf, periodicOf, spread, capped, boxed, framed, frameOf}
-use Rattle.frame.specs.Framing.{pointCount, movedRings, frame}
-use Rattle.frame.proofs.SheetFrame.{sheet-moved, numbers-count, points-least, points-most}
+use Rattle.answers.proofs.Permutations.{all_flatten}
+use Rattle.sheet.specs.Checks.{most_coedges, ring_wrong, layout_checks, content_checks}
+use Rattle.sheet.specs.Content.{Point, Coedge, ring_points, flat}
+use Rattle.sheet.specs.Layout.{sheet_of}
+use Rattle.sheet.proofs.Checked.{coordinate_most, MostPoint, ring_most, checked}
+use Rattle.points.specs.Bounds.{least, greatest, axis_of}
+use Rattle.points.specs.Unroll.{moved_ring}
+use Rattle.points.proofs.Flat.{length_flat}
+use Rattle.points.proofs.Reach.{moved_ring_most, least_most, greatest_most}
+use Rattle.frame.specs.Frame.{band_of, periodic_of, spread, capped, boxed, framed, frame_of}
+use Rattle.frame.specs.Framing.{point_count, moved_rings, frame}
+use Rattle.frame.proofs.SheetFrame.{sheet_moved, numbers_count, points_least, points_most}
 
 -- ---- the scales of points of which none is larger than n
 
-spread-finite : (n axis : ℕ) (ps : List Point) → n + n ≤ 2 ^ prec binary64 → 1 ≤ length ps → All (MostPoint n) ps → T (finite (spread axis ps))
+spread_finite : (n axis : ℕ) (ps : List Point) → n + n ≤ 2 ^ prec binary64 → 1 ≤ length ps → All (MostPoint n) ps → T (finite (spread axis ps))
 unfolding spread
-spread-finite n axis ps fit some h =
-    most-finite (n + n) (spread axis ps)
-    (sub-most binary64 (greatest (map (axisOf axis) ps)) (least (map (axisOf axis) ps)) n n fit (greatest-most n axis ps some h) (least-most n axis ps some h))
+spread_finite n axis ps fit some h =
+    most_finite (n + n) (spread axis ps)
+    (sub_most binary64 (greatest (map (axis_of axis) ps)) (least (map (axis_of axis) ps)) n n fit (greatest_most n axis ps some h) (least_most n axis ps some h))
 
-capped-finite : (periodic : Bool) (scale : Float) → T (finite scale) → T (finite (capped periodic scale))
+capped_finite : (periodic : Bool) (scale : Float) → T (finite scale) → T (finite (capped periodic scale))
 unfolding capped
-capped-finite true scale h = smaller-keeps (λ (x : Float). T (finite x)) scale tau h (most-finite 7 tau tau-most)
-capped-finite false scale h = h
+capped_finite true scale h = smaller_keeps (λ (x : Float). T (finite x)) scale tau h (most_finite 7 tau tau_most)
+capped_finite false scale h = h
 
-framed-finite : (kind n : ℕ) (rings : List (List Point)) → n + n ≤ 2 ^ prec binary64 → 1 ≤ length (flatten rings) → All (MostPoint n) (flatten rings)
-    → T (finite (frameOf kind rings).scale_u) × T (finite (frameOf kind rings).scale_v)
-unfolding frameOf framed boxed
-framed-finite kind n rings fit some h =
+framed_finite : (kind n : ℕ) (rings : List (List Point)) → n + n ≤ 2 ^ prec binary64 → 1 ≤ length (flatten rings) → All (MostPoint n) (flatten rings)
+    → T (finite (frame_of kind rings).scale_u) × T (finite (frame_of kind rings).scale_v)
+unfolding frame_of framed boxed
+framed_finite kind n rings fit some h =
     let ps = flatten rings in
-    (capped-finite (periodicOf kind (bandOf kind rings)) (spread 0 ps) (spread-finite n 0 ps fit some h), spread-finite n 1 ps fit some h)
+    (capped_finite (periodic_of kind (band_of kind rings)) (spread 0 ps) (spread_finite n 0 ps fit some h), spread_finite n 1 ps fit some h)
 
 -- ---- the points of a sheet
 
 -- seventeen a coedge
-abbrev mostPoints : ℕ
-mostPoints = 17 * mostCoedges
+abbrev most_points : ℕ
+most_points = 17 * most_coedges
 
 -- how much further out than the one before it a moved point can lie
 abbrev stride : ℕ
-stride = coordinateMost + coordinateMost + 8
+stride = coordinate_most + coordinate_most + 8
 
 -- how far out the last one can lie
 abbrev reach : ℕ
-reach = coordinateMost + mostPoints * stride
+reach = coordinate_most + most_points * stride
 
-rings-most : (kind phase : ℕ) (rings : List (List Coedge)) → All (λ (r : List Coedge). ringWrong r ≡ false) rings → All (λ (r : List Coedge). length (ringPoints r) ≤ mostPoints) rings
-    → All (All (MostPoint reach)) (map (λ (r : List Coedge). movedRing kind phase (ringPoints r)) rings)
+rings_most_lem : (kind phase : ℕ) (rings : List (List Coedge)) → All (λ (r : List Coedge). ring_wrong r ≡ false) rings → All (λ (r : List Coedge). length (ring_points r) ≤ most_points) rings
+    → All (All (MostPoint reach)) (map (λ (r : List Coedge). moved_ring kind phase (ring_points r)) rings)
 unfolding of_bits
-rings-most kind phase [] h k = tt
-rings-most kind phase (r ∷ rs) h k = (
-  moved-ring-most coordinateMost stride (omega arith) reach (omega arith) (omega arith) (omega arith) kind phase (ringPoints r) (omega (arith, k.0)) (ring-most r h.0),
-  rings-most kind phase rs h.1 k.1,
+rings_most_lem kind phase [] h k = tt
+rings_most_lem kind phase (r ∷ rs) h k = (
+  moved_ring_most coordinate_most stride (omega arith) reach (omega arith) (omega arith) (omega arith) kind phase (ring_points r) (omega (arith, k.0)) (ring_most r h.0),
+  rings_most_lem kind phase rs h.1 k.1,
 )
 
-module _ (s : List ℕ) (phase : ℕ) (reads : first (layoutChecks s ++ contentChecks (sheetOf s)) ≡ 0) where
-  moved-most : All (All (MostPoint reach)) (movedRings (sheetOf s) phase)
-  unfolding movedRings pointCount
-  moved-most = rings-most (sheetOf s).kind phase (sheetOf s).rings (checked s reads).ringsRight (sum-parts (λ (r : List Coedge). length (ringPoints r)) mostPoints (sheetOf s).rings (omega (arith, points-most s reads)))
+module _ (s : List ℕ) (phase : ℕ) (reads : first (layout_checks s ++ content_checks (sheet_of s)) ≡ 0) where
+  moved_most : All (All (MostPoint reach)) (moved_rings (sheet_of s) phase)
+  unfolding moved_rings point_count
+  moved_most = rings_most_lem (sheet_of s).kind phase (sheet_of s).rings (checked s reads).rings_right (sum_parts (λ (r : List Coedge). length (ring_points r)) most_points (sheet_of s).rings (omega (arith, points_most s reads)))
 
-  some-point : 1 ≤ length (flatten (movedRings (sheetOf s) phase))
-  some-point =
-      let rings = movedRings (sheetOf s) phase in
-      let count : length (flat (flatten rings)) ≡ 2 * pointCount (sheetOf s) = ap (λ (rs : List (List Point)). length (flat (flatten rs))) (sheet-moved s phase) ∙ numbers-count s phase in
-      omega (arith, count, length-flat (flatten rings), points-least s reads)
+  some_point : 1 ≤ length (flatten (moved_rings (sheet_of s) phase))
+  some_point =
+      let rings = moved_rings (sheet_of s) phase in
+      let count : length (flat (flatten rings)) ≡ 2 * point_count (sheet_of s) = ap (λ (rs : List (List Point)). length (flat (flatten rs))) (sheet_moved s phase) ∙ numbers_count s phase in
+      omega (arith, count, length_flat (flatten rings), points_least s reads)
 
-pub scales-finite : (s : List ℕ) (phase : ℕ) → first (layoutChecks s ++ contentChecks (sheetOf s)) ≡ 0
-    → T (finite (frame (sheetOf s) phase).scale_u) × T (finite (frame (sheetOf s) phase).scale_v)
+pub scales_finite : (s : List ℕ) (phase : ℕ) → first (layout_checks s ++ content_checks (sheet_of s)) ≡ 0
+    → T (finite (frame (sheet_of s) phase).scale_u) × T (finite (frame (sheet_of s) phase).scale_v)
 unfolding frame of_bits
-scales-finite s phase reads =
-    let rings = movedRings (sheetOf s) phase in
-    framed-finite (sheetOf s).kind reach rings (omega arith) (some-point s phase reads) (all-flatten (MostPoint reach) rings (moved-most s phase reads))
+scales_finite s phase reads =
+    let rings = moved_rings (sheet_of s) phase in
+    framed_finite (sheet_of s).kind reach rings (omega arith) (some_point s phase reads) (all_flatten (MostPoint reach) rings (moved_most s phase reads))

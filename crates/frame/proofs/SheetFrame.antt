@@ -5,75 +5,75 @@ use mathlib.Core.Path.{◌≡◌, refl, sym, ap, ap₂, ◌∙◌}
 use Prim.Native.Nat.{ℕ, ◌*◌, ◌≤◌}
 use native.Mathlib.Omega.{arith}
 use lib.ListN.{length, drop}
-use Rattle.answers.specs.Lists.{anyOf}
+use Rattle.answers.specs.Lists.{any_of}
 use Rattle.answers.specs.Outcome.{first}
-use Rattle.sheet.specs.Checks.{layoutChecks, contentChecks}
-use Rattle.sheet.specs.Content.{Point, Coedge, ringPoints, flat}
-use Rattle.sheet.specs.Layout.{kind, ringCount, headSize, ring, cut, blocks, sheetOf}
-use Rattle.sheet.proofs.Blocks.{coedge-points}
+use Rattle.sheet.specs.Checks.{layout_checks, content_checks}
+use Rattle.sheet.specs.Content.{Point, Coedge, ring_points, flat}
+use Rattle.sheet.specs.Layout.{kind, ring_count, head_size, ring, cut, blocks, sheet_of}
+use Rattle.sheet.proofs.Blocks.{coedge_points}
 use Rattle.sheet.proofs.Checked.{checked}
 use Rattle.points.specs.Joins.{opens}
-use Rattle.points.specs.Unroll.{movedRing}
-use Rattle.points.proofs.Moved.{length-moved}
+use Rattle.points.specs.Unroll.{moved_ring}
+use Rattle.points.proofs.Moved.{length_moved}
 use Rattle.points.proofs.Opening.{opening}
-use Rattle.frame.specs.Frame.{frameOf}
-use Rattle.frame.specs.Framing.{movedRings, frame, anyOpen, joinsOpen, pointCount, joinRows, joinChecks}
-use Rattle.frame.specs.Stages.{movedBlock, movedBlocks, openEvery}
+use Rattle.frame.specs.Frame.{frame_of}
+use Rattle.frame.specs.Framing.{moved_rings, frame, any_open, joins_open, point_count, join_rows, join_checks}
+use Rattle.frame.specs.Stages.{moved_block, moved_blocks, open_every}
 use Rattle.frame.specs.declared.framing.Frame.{Frame}
-use Rattle.frame.proofs.Counting.{points-by-coedges, count-of-blocks, moved-numbers, ring-number, some-coedge}
+use Rattle.frame.proofs.Counting.{points_by_coedges, count_of_blocks, moved_numbers, ring_number, some_coedge}
 
 -- ---- the moved rings
 
-blocks-moved : (kind phase : ℕ) (bs : List (List ℕ)) → map (λ (r : List Coedge). movedRing kind phase (ringPoints r)) (map ring bs) ≡ map (movedBlock kind phase) bs
-unfolding movedBlock
-blocks-moved kind phase [] = refl
-blocks-moved kind phase (b ∷ bs) = ap (λ (rs : List (List Point)). movedRing kind phase (ringPoints (ring b)) ∷ rs) (blocks-moved kind phase bs)
+blocks_moved : (kind phase : ℕ) (bs : List (List ℕ)) → map (λ (r : List Coedge). moved_ring kind phase (ring_points r)) (map ring bs) ≡ map (moved_block kind phase) bs
+unfolding moved_block
+blocks_moved kind phase [] = refl
+blocks_moved kind phase (b ∷ bs) = ap (λ (rs : List (List Point)). moved_ring kind phase (ring_points (ring b)) ∷ rs) (blocks_moved kind phase bs)
 
-pub sheet-moved : (s : List ℕ) (phase : ℕ) → movedRings (sheetOf s) phase ≡ movedBlocks (kind s) phase (ringCount s) (drop (headSize (kind s)) s)
-unfolding movedRings sheetOf movedBlocks blocks
-sheet-moved s phase = blocks-moved (kind s) phase (cut (ringCount s) (drop (headSize (kind s)) s))
+pub sheet_moved : (s : List ℕ) (phase : ℕ) → moved_rings (sheet_of s) phase ≡ moved_blocks (kind s) phase (ring_count s) (drop (head_size (kind s)) s)
+unfolding moved_rings sheet_of moved_blocks blocks
+sheet_moved s phase = blocks_moved (kind s) phase (cut (ring_count s) (drop (head_size (kind s)) s))
 
 -- every coedge has seventeen points, so which points are their coedge's first is told by counting
-rings-open : (f : Frame) (kind phase : ℕ) (bs : List (List ℕ))
-    → anyOpen f opens (λ (r : List Coedge). movedRing kind phase (ringPoints r)) (map ring bs) ≡ openEvery f (map (movedBlock kind phase) bs)
-unfolding anyOf anyOpen movedBlock
-rings-open f kind phase [] = refl
-rings-open f kind phase (b ∷ bs) =
-    let ps = movedRing kind phase (ringPoints (ring b)) in
-    rw (opening 16 (ring b) ps (coedge-points b) (length-moved kind phase (ringPoints (ring b))), rings-open f kind phase bs)
+rings_open : (f : Frame) (kind phase : ℕ) (bs : List (List ℕ))
+    → any_open f opens (λ (r : List Coedge). moved_ring kind phase (ring_points r)) (map ring bs) ≡ open_every f (map (moved_block kind phase) bs)
+unfolding any_of any_open moved_block
+rings_open f kind phase [] = refl
+rings_open f kind phase (b ∷ bs) =
+    let ps = moved_ring kind phase (ring_points (ring b)) in
+    rw (opening 16 (ring b) ps (coedge_points b) (length_moved kind phase (ring_points (ring b))), rings_open f kind phase bs)
 
 module _ (s : List ℕ) (phase : ℕ) where
   abbrev rings : List (List Point)
-  rings = movedBlocks (kind s) phase (ringCount s) (drop (headSize (kind s)) s)
+  rings = moved_blocks (kind s) phase (ring_count s) (drop (head_size (kind s)) s)
 
-  pub sheet-frame : frame (sheetOf s) phase ≡ frameOf (kind s) rings
-  unfolding frame sheetOf
-  sheet-frame = ap (frameOf (kind s)) (sheet-moved s phase)
+  pub sheet_frame : frame (sheet_of s) phase ≡ frame_of (kind s) rings
+  unfolding frame sheet_of
+  sheet_frame = ap (frame_of (kind s)) (sheet_moved s phase)
 
-  pub sheet-open : joinsOpen (sheetOf s) phase ≡ openEvery (frameOf (kind s) rings) rings
-  unfolding joinsOpen sheetOf blocks movedBlocks
-  sheet-open =
-      ap (λ (f : Frame). anyOpen f opens (λ (r : List Coedge). movedRing (kind s) phase (ringPoints r)) (sheetOf s).rings) sheet-frame
-      ∙ rings-open (frameOf (kind s) rings) (kind s) phase (cut (ringCount s) (drop (headSize (kind s)) s))
+  pub sheet_open : joins_open (sheet_of s) phase ≡ open_every (frame_of (kind s) rings) rings
+  unfolding joins_open sheet_of blocks moved_blocks
+  sheet_open =
+      ap (λ (f : Frame). any_open f opens (λ (r : List Coedge). moved_ring (kind s) phase (ring_points r)) (sheet_of s).rings) sheet_frame
+      ∙ rings_open (frame_of (kind s) rings) (kind s) phase (cut (ring_count s) (drop (head_size (kind s)) s))
 
   -- checks 11 to 13 are the rows of the frame
-  pub sheet-rows : joinChecks (sheetOf s) phase ≡ joinRows (frameOf (kind s) rings) (openEvery (frameOf (kind s) rings) rings)
-  unfolding joinChecks
-  sheet-rows = ap₂ joinRows sheet-frame sheet-open
+  pub sheet_rows : join_checks (sheet_of s) phase ≡ join_rows (frame_of (kind s) rings) (open_every (frame_of (kind s) rings) rings)
+  unfolding join_checks
+  sheet_rows = ap₂ join_rows sheet_frame sheet_open
 
-  pub numbers-count : length (flat (flatten rings)) ≡ 2 * pointCount (sheetOf s)
-  unfolding movedBlocks
-  numbers-count = moved-numbers (kind s) phase (cut (ringCount s) (drop (headSize (kind s)) s)) ∙ ap (λ (n : ℕ). 2 * n) (sym (count-of-blocks s))
+  pub numbers_count : length (flat (flatten rings)) ≡ 2 * point_count (sheet_of s)
+  unfolding moved_blocks
+  numbers_count = moved_numbers (kind s) phase (cut (ring_count s) (drop (head_size (kind s)) s)) ∙ ap (λ (n : ℕ). 2 * n) (sym (count_of_blocks s))
 
 -- ---- a sheet that reads has a point, and no more points than the largest
 
-pub points-most : (s : List ℕ) → first (layoutChecks s ++ contentChecks (sheetOf s)) ≡ 0 → 2 * pointCount (sheetOf s) ≤ 4352
-unfolding sheetOf blocks
-points-most s reads = omega (arith, count-of-blocks s, points-by-coedges (cut (ringCount s) (drop (headSize (kind s)) s)), (checked s reads).coedgesMost)
+pub points_most : (s : List ℕ) → first (layout_checks s ++ content_checks (sheet_of s)) ≡ 0 → 2 * point_count (sheet_of s) ≤ 4352
+unfolding sheet_of blocks
+points_most s reads = omega (arith, count_of_blocks s, points_by_coedges (cut (ring_count s) (drop (head_size (kind s)) s)), (checked s reads).coedges_most)
 
-pub points-least : (s : List ℕ) → first (layoutChecks s ++ contentChecks (sheetOf s)) ≡ 0 → 1 ≤ pointCount (sheetOf s)
-unfolding sheetOf blocks
-points-least s reads =
+pub points_least : (s : List ℕ) → first (layout_checks s ++ content_checks (sheet_of s)) ≡ 0 → 1 ≤ point_count (sheet_of s)
+unfolding sheet_of blocks
+points_least s reads =
     let c = checked s reads in
-    let rings = map ring (cut (ringCount s) (drop (headSize (kind s)) s)) in
-    omega (arith, count-of-blocks s, points-by-coedges (cut (ringCount s) (drop (headSize (kind s)) s)), some-coedge rings (omega (arith, ring-number s, c.layout.ringsLeast)) c.ringsFull)
+    let rings = map ring (cut (ring_count s) (drop (head_size (kind s)) s)) in
+    omega (arith, count_of_blocks s, points_by_coedges (cut (ring_count s) (drop (head_size (kind s)) s)), some_coedge rings (omega (arith, ring_number s, c.layout.rings_least)) c.rings_full)

@@ -7,56 +7,56 @@ use Rattle.std.specs.Prelude.{Bool, cond, ◌&&◌, ◌||◌, ℕ, eqb, Float}
 use mathlib.Core.List.{List, map, flatten}
 use Rattle.std.specs.Float.{binary64}
 use Rattle.std.specs.Float.Ieee.{sub, div, le}
-use Rattle.leaves.specs.Bounds.{smallerOf}
-use Rattle.leaves.specs.Constants.{pi, tau, scaleLimit}
+use Rattle.leaves.specs.Bounds.{smaller_of}
+use Rattle.leaves.specs.Constants.{pi, tau, scale_limit}
 use Rattle.sheet.specs.Content.{Point}
-use Rattle.answers.specs.Lists.{anyOf}
-use Rattle.points.specs.Bounds.{least, greatest, axisOf, goesAround}
+use Rattle.answers.specs.Lists.{any_of}
+use Rattle.points.specs.Bounds.{least, greatest, axis_of, goes_around}
 use Rattle.frame.specs.declared.framing.Frame.{Frame}
 
-unfoldable pub bandOf : ℕ → List (List Point) → Bool
-unfolding anyOf goesAround
-bandOf kind rings = eqb kind 4 && anyOf goesAround rings
+unfoldable pub band_of : ℕ → List (List Point) → Bool
+unfolding any_of goes_around
+band_of kind rings = eqb kind 4 && any_of goes_around rings
 
-unfoldable pub periodicOf : ℕ → Bool → Bool
-periodicOf kind band = eqb kind 1 || eqb kind 2 || band
+unfoldable pub periodic_of : ℕ → Bool → Bool
+periodic_of kind band = eqb kind 1 || eqb kind 2 || band
 
 -- greatest − least of all points' u, or v
 unfoldable pub spread : ℕ → List Point → Float
-unfolding sub least greatest axisOf
-spread axis ps = sub binary64 (greatest (map (axisOf axis) ps)) (least (map (axisOf axis) ps))
+unfolding sub least greatest axis_of
+spread axis ps = sub binary64 (greatest (map (axis_of axis) ps)) (least (map (axis_of axis) ps))
 
 unfoldable pub capped : Bool → Float → Float
-capped periodic scale = cond periodic (smallerOf scale tau) scale
+capped periodic scale = cond periodic (smaller_of scale tau) scale
 
 -- of a box with these least u and v and these scales, before the cap
 unfoldable pub boxed : Bool → Bool → Float → Float → Float → Float → Frame
 unfolding capped div
-boxed periodic band leastU leastV scaleU scaleV = record {
-  least_u = leastU;
-  least_v = leastV;
-  scale_u = capped periodic scaleU;
-  scale_v = scaleV;
-  period = div binary64 tau (capped periodic scaleU);
+boxed periodic band least_u least_v scale_u scale_v = record {
+  least_u = least_u;
+  least_v = least_v;
+  scale_u = capped periodic scale_u;
+  scale_v = scale_v;
+  period = div binary64 tau (capped periodic scale_u);
   periodic = periodic;
   band = band;
 }
 
 -- of the points of all rings together
 unfoldable pub framed : Bool → Bool → List Point → Frame
-unfolding boxed least axisOf spread
-framed periodic band ps = boxed periodic band (least (map (axisOf 0) ps)) (least (map (axisOf 1) ps)) (spread 0 ps) (spread 1 ps)
+unfolding boxed least axis_of spread
+framed periodic band ps = boxed periodic band (least (map (axis_of 0) ps)) (least (map (axis_of 1) ps)) (spread 0 ps) (spread 1 ps)
 
-unfoldable pub frameOf : ℕ → List (List Point) → Frame
-unfolding framed periodicOf bandOf flatten
-frameOf kind rings = framed (periodicOf kind (bandOf kind rings)) (bandOf kind rings) (flatten rings)
+unfoldable pub frame_of : ℕ → List (List Point) → Frame
+unfolding framed periodic_of band_of flatten
+frame_of kind rings = framed (periodic_of kind (band_of kind rings)) (band_of kind rings) (flatten rings)
 
 -- ---- 11: "torus band with v scale ≥ PI"
-unfoldable pub bandWide : Frame → Bool
+unfoldable pub band_wide : Frame → Bool
 unfolding le
-bandWide f = f.band && le pi f.scale_v
+band_wide f = f.band && le pi f.scale_v
 
 -- ---- 12: "u or v scale ≤ 1e-12"
 unfoldable pub narrow : Frame → Bool
 unfolding le
-narrow f = le f.scale_u scaleLimit || le f.scale_v scaleLimit
+narrow f = le f.scale_u scale_limit || le f.scale_v scale_limit

@@ -9,9 +9,9 @@ unfoldable pub parts : ℕ → List ℕ → List Float → List (List Float)
 parts from [] xs = []
 parts from (end ∷ ends) xs = take (end - from) (drop from xs) ∷ parts end ends xs
 
-unfoldable pub ringsFrom : ℕ → List ℕ → List Float → List (List Point)
+unfoldable pub rings_from : ℕ → List ℕ → List Float → List (List Point)
 unfolding parts pairs
-ringsFrom from ends xs = map pairs (parts from ends xs)
+rings_from from ends xs = map pairs (parts from ends xs)
 
 -- the ends go up, and none is past so many numbers
 abbrev pub Ascends : ℕ → List ℕ → ℕ → Type 0
@@ -19,11 +19,11 @@ Ascends from [] size = from ≤ size
 Ascends from (end ∷ ends) size = (from ≤ end) × Ascends end ends size
 
 -- where each ring's numbers end, when the first begins at `from`
-unfoldable pub endsFrom : ℕ → List (List Point) → List ℕ
-endsFrom from [] = []
-endsFrom from (ring ∷ rings) = (from + 2 * length ring) ∷ endsFrom (from + 2 * length ring) rings
+unfoldable pub ends_from : ℕ → List (List Point) → List ℕ
+ends_from from [] = []
+ends_from from (ring ∷ rings) = (from + 2 * length ring) ∷ ends_from (from + 2 * length ring) rings
 
 -- the ends part the list into rings with nothing between them and nothing left over
 pub record Packed (ends : List ℕ) (xs : List Float) : Type 0 where
-  pub numbers-are : xs ≡ flat (flatten (ringsFrom 0 ends xs))
-  pub ends-are : ends ≡ endsFrom 0 (ringsFrom 0 ends xs)
+  pub numbers_are : xs ≡ flat (flatten (rings_from 0 ends xs))
+  pub ends_are : ends ≡ ends_from 0 (rings_from 0 ends xs)

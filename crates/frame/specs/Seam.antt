@@ -5,52 +5,52 @@
 use Rattle.std.specs.Prelude.{Bool, not, cond, ◌&&◌, ℕ, ◌*◌, eqb, leb, Float, length}
 use mathlib.Core.List.{List, [], ◌∷◌, ◌++◌, flatten}
 use Rattle.answers.specs.Outcome.{Check, check, first}
-use Rattle.sheet.specs.Checks.{layoutChecks, contentChecks}
+use Rattle.sheet.specs.Checks.{layout_checks, content_checks}
 use Rattle.sheet.specs.Content.{Sheet, flat}
-use Rattle.sheet.specs.Layout.{sheetOf}
-use Rattle.frame.specs.Framing.{movedRings, frame, pointCount, phaseWrong, joinChecks}
-use Rattle.frame.specs.Parts.{endsFrom}
+use Rattle.sheet.specs.Layout.{sheet_of}
+use Rattle.frame.specs.Framing.{moved_rings, frame, point_count, phase_wrong, join_checks}
+use Rattle.frame.specs.Parts.{ends_from}
 use Rattle.frame.specs.declared.framing.Frame.{Frame}
 use Rattle.frame.specs.declared.seam.Framed.{Framed}
 use Rattle.frame.specs.declared.seam.Framed.TheVariants.{Ready, Refused}
 
 -- ---- 1 to 8
 
-unfoldable pub phaseChecks : List ℕ → ℕ → List Check
-unfolding layoutChecks contentChecks sheetOf phaseWrong
-phaseChecks s phase = layoutChecks s ++ contentChecks (sheetOf s) ++ check 8 (phaseWrong (sheetOf s) phase) ∷ []
+unfoldable pub phase_checks : List ℕ → ℕ → List Check
+unfolding layout_checks content_checks sheet_of phase_wrong
+phase_checks s phase = layout_checks s ++ content_checks (sheet_of s) ++ check 8 (phase_wrong (sheet_of s) phase) ∷ []
 
 -- ---- lists for the moved points and for the rings' ends
 
 -- the numbers of the largest accepted sheet's points: 128 coedges of 17 points of two
-abbrev pub mostNumbers : ℕ
-mostNumbers = 4352
+abbrev pub most_numbers : ℕ
+most_numbers = 4352
 
 -- whether lists of so many numbers and so many ends are just the sheet's, and no longer than the largest accepted
 -- sheet's
 unfoldable pub fitting : Sheet → ℕ → ℕ → Bool
-unfolding pointCount
-fitting s numbers ends = eqb numbers (2 * pointCount s) && (eqb ends (length s.rings) && leb numbers mostNumbers)
+unfolding point_count
+fitting s numbers ends = eqb numbers (2 * point_count s) && (eqb ends (length s.rings) && leb numbers most_numbers)
 
 -- the points of the moved rings, one ring behind the other, and where each ring's end; lists of another size stay
-unfoldable pub laidPoints : Bool → Sheet → ℕ → List Float → List Float
-unfolding flat flatten movedRings
-laidPoints fits s phase points = cond fits (flat (flatten (movedRings s phase))) points
+unfoldable pub laid_points : Bool → Sheet → ℕ → List Float → List Float
+unfolding flat flatten moved_rings
+laid_points fits s phase points = cond fits (flat (flatten (moved_rings s phase))) points
 
-unfoldable pub laidEnds : Bool → Sheet → ℕ → List ℕ → List ℕ
-unfolding endsFrom movedRings
-laidEnds fits s phase ends = cond fits (endsFrom 0 (movedRings s phase)) ends
+unfoldable pub laid_ends : Bool → Sheet → ℕ → List ℕ → List ℕ
+unfolding ends_from moved_rings
+laid_ends fits s phase ends = cond fits (ends_from 0 (moved_rings s phase)) ends
 
 -- ---- 11 to 13, behind 9 of these lists
 
-unfoldable pub seamChecks : Bool → Sheet → ℕ → List Check
-unfolding joinChecks
-seamChecks fits s phase = check 9 (not fits) ∷ joinChecks s phase
+unfoldable pub seam_checks : Bool → Sheet → ℕ → List Check
+unfolding join_checks
+seam_checks fits s phase = check 9 (not fits) ∷ join_checks s phase
 
 -- the frame where no check fails, else the first that does
 unfoldable pub ready : ℕ → Frame → Framed
 ready refusal f = cond (eqb refusal 0) (Ready f) (Refused refusal)
 
-unfoldable pub framedOf : Bool → Sheet → ℕ → Framed
-unfolding ready first seamChecks frame
-framedOf fits s phase = ready (first (seamChecks fits s phase)) (frame s phase)
+unfoldable pub framed_of : Bool → Sheet → ℕ → Framed
+unfolding ready first seam_checks frame
+framed_of fits s phase = ready (first (seam_checks fits s phase)) (frame s phase)

@@ -1,13 +1,13 @@
 // Checks 1 to 8, and how many numbers the points are.
 ghost use Rattle.std.specs.Prelude.{◌≡◌, ◌*◌};
 ghost use Rattle.answers.specs.Outcome.{first};
-ghost use Rattle.sheet.specs.Layout.{sheetOf};
-ghost use Rattle.frame.specs.Framing.{phaseWrong, pointCount};
-ghost use Rattle.frame.specs.Seam.{phaseChecks};
+ghost use Rattle.sheet.specs.Layout.{sheet_of};
+ghost use Rattle.frame.specs.Framing.{phase_wrong, point_count};
+ghost use Rattle.frame.specs.Seam.{phase_checks};
 
 // 8: a phase that is neither 0 nor 1, or 1 off a torus.
 fn phase_wrong(s: &[u8], phase: u32) -> bool
-    ensures { result ≡ phaseWrong (sheetOf s.now) phase }
+    ensures { result ≡ phase_wrong (sheet_of s.now) phase }
 {
     if 1 < phase {
         true
@@ -20,7 +20,7 @@ fn phase_wrong(s: &[u8], phase: u32) -> bool
 
 // The number of the first check of 1 to 8 that fails, 0 where none does.
 pub fn refusal(s: &[u8], phase: u32) -> u32
-    ensures { result ≡ first (phaseChecks s.now phase) }
+    ensures { result ≡ first (phase_checks s.now phase) }
 {
     let number = sheet::refusal(s);
     if number != 0 {
@@ -31,7 +31,7 @@ pub fn refusal(s: &[u8], phase: u32) -> u32
 
 // How many f64 the points of all rings are.
 pub fn point_numbers(s: &[u8]) -> usize
-    ensures { result ≡ 2 * pointCount (sheetOf s.now) }
+    ensures { result ≡ 2 * point_count (sheet_of s.now) }
 {
     let mut at = sheet::head_size(sheet::byte_at(s, 5));
     let count = sheet::byte_at(s, 7);

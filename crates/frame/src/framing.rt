@@ -1,13 +1,13 @@
 // Rule 3: the box of all rings, band and periodic, and the checks 11 to 13.
 ghost use Rattle.std.specs.Prelude.{◌≡◌, length};
 ghost use Rattle.sheet.specs.Content.{pairs};
-ghost use Rattle.answers.specs.Lists.{anyOf};
-ghost use Rattle.points.specs.Bounds.{goesAround};
-ghost use Rattle.frame.specs.Frame.{bandOf, periodicOf, capped as cappedAt, framed, bandWide, narrow as narrowIn};
-ghost use Rattle.frame.specs.Parts.{ringsFrom, Ascends};
+ghost use Rattle.answers.specs.Lists.{any_of};
+ghost use Rattle.points.specs.Bounds.{goes_around};
+ghost use Rattle.frame.specs.Frame.{band_of, periodic_of, capped as capped_at, framed, band_wide, narrow as narrow_in};
+ghost use Rattle.frame.specs.Parts.{rings_from, Ascends};
 ghost use Rattle.answers.specs.Outcome.{first};
-ghost use Rattle.frame.specs.Framing.{joinRows};
-ghost use Rattle.frame.specs.Stages.{openEvery};
+ghost use Rattle.frame.specs.Framing.{join_rows};
+ghost use Rattle.frame.specs.Stages.{open_every};
 
 use leaves::constants::{PI, SCALE_LIMIT, TAU};
 
@@ -27,7 +27,7 @@ pub struct Frame {
 // Whether a ring goes around.
 fn any_goes_around(points: &[f64], ends: &[usize]) -> bool
     requires { Ascends 0 ends.now (length points.now) }
-    ensures { result ≡ anyOf goesAround (ringsFrom 0 ends.now points.now) }
+    ensures { result ≡ any_of goes_around (rings_from 0 ends.now points.now) }
 {
     let mut from = 0usize;
     let mut k = 0;
@@ -45,7 +45,7 @@ fn any_goes_around(points: &[f64], ends: &[usize]) -> bool
 // A torus band: kind 4 with a ring that goes around.
 fn is_band(kind: u8, points: &[f64], ends: &[usize]) -> bool
     requires { Ascends 0 ends.now (length points.now) }
-    ensures { result ≡ bandOf kind (ringsFrom 0 ends.now points.now) }
+    ensures { result ≡ band_of kind (rings_from 0 ends.now points.now) }
 {
     if kind == 4 {
         any_goes_around(points, ends)
@@ -56,7 +56,7 @@ fn is_band(kind: u8, points: &[f64], ends: &[usize]) -> bool
 
 // Kinds 1, 2, or a band.
 fn is_periodic(kind: u8, band: bool) -> bool
-    ensures { result ≡ periodicOf kind band }
+    ensures { result ≡ periodic_of kind band }
 {
     if kind == 1 {
         true
@@ -69,7 +69,7 @@ fn is_periodic(kind: u8, band: bool) -> bool
 
 // Periodic caps the u scale at TAU.
 fn capped(periodic: bool, scale: f64) -> f64
-    ensures { result ≡ cappedAt periodic scale }
+    ensures { result ≡ capped_at periodic scale }
 {
     if periodic {
         leaves::smaller_of(scale, TAU)
@@ -98,7 +98,7 @@ fn framed_by(periodic: bool, band: bool, points: &[f64]) -> Frame
 // The frame of the rings that stand in `points`, one behind the other.
 pub(crate) fn frame_of(kind: u8, points: &[f64], ends: &[usize]) -> Frame
     requires { Ascends 0 ends.now (length points.now) }
-    ensures { result ≡ framed (periodicOf kind (bandOf kind (ringsFrom 0 ends.now points.now))) (bandOf kind (ringsFrom 0 ends.now points.now)) (pairs points.now) }
+    ensures { result ≡ framed (periodic_of kind (band_of kind (rings_from 0 ends.now points.now))) (band_of kind (rings_from 0 ends.now points.now)) (pairs points.now) }
 {
     let band = is_band(kind, points, ends);
     framed_by(is_periodic(kind, band), band, points)
@@ -106,7 +106,7 @@ pub(crate) fn frame_of(kind: u8, points: &[f64], ends: &[usize]) -> Frame
 
 // 11: a torus band with v scale PI or more.
 fn band_wide(frame: Frame) -> bool
-    ensures { result ≡ bandWide frame }
+    ensures { result ≡ band_wide frame }
 {
     if frame.band {
         PI <= frame.scale_v
@@ -117,7 +117,7 @@ fn band_wide(frame: Frame) -> bool
 
 // 12: u or v scale at most 1e-12.
 fn narrow(frame: Frame) -> bool
-    ensures { result ≡ narrowIn frame }
+    ensures { result ≡ narrow_in frame }
 {
     if frame.scale_u <= SCALE_LIMIT {
         true
@@ -129,7 +129,7 @@ fn narrow(frame: Frame) -> bool
 // 13: a join above 1e-4.
 fn joins_open(frame: Frame, points: &[f64], ends: &[usize]) -> bool
     requires { Ascends 0 ends.now (length points.now) }
-    ensures { result ≡ openEvery frame (ringsFrom 0 ends.now points.now) }
+    ensures { result ≡ open_every frame (rings_from 0 ends.now points.now) }
 {
     let periodic = frame.periodic;
     let scale_u = frame.scale_u;
@@ -156,7 +156,7 @@ fn joins_open(frame: Frame, points: &[f64], ends: &[usize]) -> bool
 // Checks 11 to 13 in a frame: the number of the first that fails, 0 where none does.
 pub(crate) fn joins_refusal(frame: Frame, points: &[f64], ends: &[usize]) -> u32
     requires { Ascends 0 ends.now (length points.now) }
-    ensures { result ≡ first (joinRows frame (openEvery frame (ringsFrom 0 ends.now points.now))) }
+    ensures { result ≡ first (join_rows frame (open_every frame (rings_from 0 ends.now points.now))) }
 {
     if band_wide(frame) {
         return 11;

@@ -2,13 +2,13 @@
 ghost use Rattle.std.specs.Prelude.{◌≡◌, ◌*◌, ◌≤◌, min, length, get_or, drop};
 ghost use mathlib.Core.List.{flatten};
 ghost use Rattle.sheet.specs.Content.{flat};
-ghost use Rattle.frame.specs.Parts.{endsFrom};
-ghost use Rattle.frame.specs.Stages.{movedBlock, movedBlocks};
+ghost use Rattle.frame.specs.Parts.{ends_from};
+ghost use Rattle.frame.specs.Stages.{moved_block, moved_blocks};
 
 // The moved points of a ring's block, over a list that has room for just them.
 fn move_ring(kind: u8, phase: u32, block: &[u8], points: &mut [f64])
     requires { length points.old ≡ 34 * get_or block.now 0 0 }
-    ensures { points.new ≡ flat (movedBlock kind phase block.now) }
+    ensures { points.new ≡ flat (moved_block kind phase block.now) }
 {
     points::read(block, points);
     points::unroll(kind, phase, points);
@@ -32,8 +32,8 @@ pub(crate) fn prepare(
     points: &mut [f64],
     ends: &mut [usize],
 )
-    requires { (start ≤ 80) × (length ends.old ≤ 255) × (length points.old ≡ length (flat (flatten (movedBlocks kind phase (length ends.old) (drop start s.now))))) }
-    ensures { (points.new ≡ flat (flatten (movedBlocks kind phase (length ends.old) (drop start s.now)))) × (ends.new ≡ endsFrom 0 (movedBlocks kind phase (length ends.old) (drop start s.now))) }
+    requires { (start ≤ 80) × (length ends.old ≤ 255) × (length points.old ≡ length (flat (flatten (moved_blocks kind phase (length ends.old) (drop start s.now))))) }
+    ensures { (points.new ≡ flat (flatten (moved_blocks kind phase (length ends.old) (drop start s.now)))) × (ends.new ≡ ends_from 0 (moved_blocks kind phase (length ends.old) (drop start s.now))) }
 {
     let size = s.len();
     let mut at = start;

@@ -1,7 +1,7 @@
 // The seam at which chart and picks begin: the moved points of a sheet, and its frame where it passes the joins.
 ghost use Rattle.std.specs.Prelude.{◌≡◌, length};
-ghost use Rattle.sheet.specs.Layout.{sheetOf};
-ghost use Rattle.frame.specs.Seam.{fitting, laidPoints, laidEnds, framedOf};
+ghost use Rattle.sheet.specs.Layout.{sheet_of};
+ghost use Rattle.frame.specs.Seam.{fitting, laid_points, laid_ends, framed_of};
 
 use crate::checks::point_numbers;
 use crate::framing::{Frame, frame_of, joins_refusal};
@@ -16,7 +16,7 @@ pub enum Framed {
 
 // Whether lists of so many numbers and so many ends are just those of the sheet.
 fn is_fitting(s: &[u8], numbers: usize, ends: usize) -> bool
-    ensures { result ≡ fitting (sheetOf s.now) numbers ends }
+    ensures { result ≡ fitting (sheet_of s.now) numbers ends }
 {
     if numbers != point_numbers(s) {
         return false;
@@ -31,7 +31,7 @@ fn is_fitting(s: &[u8], numbers: usize, ends: usize) -> bool
 // `ends`; lists of another size than the sheet's stay as they are, and are refused with 9. Then it answers the
 // sheet's frame, or the first of 11 to 13 that fails.
 pub fn lay_out(s: &[u8], phase: u32, points: &mut [f64], ends: &mut [usize]) -> Framed
-    ensures { (result ≡ framedOf (fitting (sheetOf s.now) (length points.old) (length ends.old)) (sheetOf s.now) phase) × (points.new ≡ laidPoints (fitting (sheetOf s.now) (length points.old) (length ends.old)) (sheetOf s.now) phase points.old) × (ends.new ≡ laidEnds (fitting (sheetOf s.now) (length points.old) (length ends.old)) (sheetOf s.now) phase ends.old) }
+    ensures { (result ≡ framed_of (fitting (sheet_of s.now) (length points.old) (length ends.old)) (sheet_of s.now) phase) × (points.new ≡ laid_points (fitting (sheet_of s.now) (length points.old) (length ends.old)) (sheet_of s.now) phase points.old) × (ends.new ≡ laid_ends (fitting (sheet_of s.now) (length points.old) (length ends.old)) (sheet_of s.now) phase ends.old) }
 {
     if !is_fitting(s, points.len(), ends.len()) {
         return Framed::Refused(9);

@@ -52,86 +52,86 @@ all : (ℕ → Bool) → ℕ → Bool
 all test zero = true
 all test (suc n) = test n && all test n
 
-all-at : (test : ℕ → Bool) (n i : ℕ) → T (all test n) → i < n → T (test i)
+all_at : (test : ℕ → Bool) (n i : ℕ) → T (all test n) → i < n → T (test i)
 unfolding all
-all-at test zero i h l = absurd (none l)
+all_at test zero i h l = absurd (none l)
   where
     none : i < 0 → ⊥
     none k = omega arith
-all-at test (suc n) i h l =
+all_at test (suc n) i h l =
     let b : i ≤ n = omega arith in
-    elim (eq-or-lt_of_le b) [ inl e ↦ subst (λ (k : ℕ). T (test k)) (sym e) (and_l (test n) (all test n) h) | inr g ↦ all-at test n i (and_r (test n) (all test n) h) g ]
+    elim (eq-or-lt_of_le b) [ inl e ↦ subst (λ (k : ℕ). T (test k)) (sym e) (and_l (test n) (all test n) h) | inr g ↦ all_at test n i (and_r (test n) (all test n) h) g ]
 
-lineUp : ℕ → Bool
-lineUp m = positive (part (m + 1)) && lt (part (m + 1)) (part (m + 1 + 1))
+line_up : ℕ → Bool
+line_up m = positive (part (m + 1)) && lt (part (m + 1)) (part (m + 1 + 1))
 
-lines-up : T (all lineUp 31)
-unfolding part div of_int of_bits round lt all lineUp positive
-lines-up = tt
+lines_up : T (all line_up 31)
+unfolding part div of_int of_bits round lt all line_up positive
+lines_up = tt
 
 module _ (m : ℕ) (h : m < 31) where
-  line-positive : T (positive (part (m + 1)))
-  unfolding lineUp
-  line-positive = and_l (positive (part (m + 1))) (lt (part (m + 1)) (part (m + 1 + 1))) (all-at lineUp 31 m lines-up h)
+  line_positive : T (positive (part (m + 1)))
+  unfolding line_up
+  line_positive = and_l (positive (part (m + 1))) (lt (part (m + 1)) (part (m + 1 + 1))) (all_at line_up 31 m lines_up h)
 
-  next-line : T (lt (part (m + 1)) (part (m + 1 + 1)))
-  unfolding lineUp
-  next-line = and_r (positive (part (m + 1))) (lt (part (m + 1)) (part (m + 1 + 1))) (all-at lineUp 31 m lines-up h)
+  next_line : T (lt (part (m + 1)) (part (m + 1 + 1)))
+  unfolding line_up
+  next_line = and_r (positive (part (m + 1))) (lt (part (m + 1)) (part (m + 1 + 1))) (all_at line_up 31 m lines_up h)
 
 module _ (x : Float) where
   -- a line is below x where a later one is
-  below-before : (n m : ℕ) → m + n < 31 → T (lt (part (m + n + 1)) x) → T (lt (part (m + 1)) x)
-  below-before zero m h b = let e : m + 0 ≡ m = omega arith in rw e at b
-  below-before (suc n) m h b =
+  below_before : (n m : ℕ) → m + n < 31 → T (lt (part (m + n + 1)) x) → T (lt (part (m + 1)) x)
+  below_before zero m h b = let e : m + 0 ≡ m = omega arith in rw e at b
+  below_before (suc n) m h b =
       let e : m + suc n + 1 ≡ m + 1 + n + 1 = omega arith in
-      through (part (m + 1)) (part (m + 1 + 1)) x (line-positive m (omega arith)) (line-positive (m + 1) (omega arith)) (next-line m (omega arith))
-      (below-before n (m + 1) (omega arith) (rw e at b))
+      through (part (m + 1)) (part (m + 1 + 1)) x (line_positive m (omega arith)) (line_positive (m + 1) (omega arith)) (next_line m (omega arith))
+      (below_before n (m + 1) (omega arith) (rw e at b))
 
   module _ (m n : ℕ) (order : m ≤ n) (last : n < 31) where
-    pub first-below : lt (part (n + 1)) x ≡ true → lt (part (m + 1)) x ≡ true
-    first-below b =
+    pub first_below : lt (part (n + 1)) x ≡ true → lt (part (m + 1)) x ≡ true
+    first_below b =
         let e : n ≡ m + (n - m) = omega arith in
-        so (lt (part (m + 1)) x) (below-before (n - m) m (omega arith) (rw (← e) (subst T (sym b) tt)))
+        so (lt (part (m + 1)) x) (below_before (n - m) m (omega arith) (rw (← e) (subst T (sym b) tt)))
       where
         so : (t : Bool) → T t → t ≡ true
         so true h = refl
         so false h = absurd h
 
-    pub later-above : lt (part (m + 1)) x ≡ false → lt (part (n + 1)) x ≡ false
-    later-above a = by (lt (part (n + 1)) x) refl
+    pub later_above : lt (part (m + 1)) x ≡ false → lt (part (n + 1)) x ≡ false
+    later_above a = by (lt (part (n + 1)) x) refl
       where
         by : (t : Bool) → lt (part (n + 1)) x ≡ t → lt (part (n + 1)) x ≡ false
         by false e = e
-        by true e = let z : ◌≡◌ {A = Bool} false true = sym a ∙ first-below e in cc
+        by true e = let z : ◌≡◌ {A = Bool} false true = sym a ∙ first_below e in cc
 
   -- ---- the count, from one nearby
 
   module _ (count : ℕ) where
-    pub none-at-end : 31 ≤ count → count ≤ 31 → NoneAfter x count
-    none-at-end h k = record { most = k; none = λ m l n. absurd (omega arith) }
+    pub none_at_end : 31 ≤ count → count ≤ 31 → NoneAfter x count
+    none_at_end h k = record { most = k; none = λ m l n. absurd (omega arith) }
 
-    pub none-above : count < 31 → lt (part (count + 1)) x ≡ false → NoneAfter x count
-    none-above h e = record { most = omega arith; none = λ m l n. later-above count m l n e }
+    pub none_above : count < 31 → lt (part (count + 1)) x ≡ false → NoneAfter x count
+    none_above h e = record { most = omega arith; none = λ m l n. later_above count m l n e }
 
     module _ (none : NoneAfter x count) where
-      pub none-lower : 0 < count → lt (part count) x ≡ false → NoneAfter x (count - 1)
-      none-lower h e =
+      pub none_lower : 0 < count → lt (part count) x ≡ false → NoneAfter x (count - 1)
+      none_lower h e =
           let f : count ≡ count - 1 + 1 = omega arith in
           let most = none.most in
-          record { most = omega arith; none = λ m l n. later-above (count - 1) m l n (rw (← f) e) }
+          record { most = omega arith; none = λ m l n. later_above (count - 1) m l n (rw (← f) e) }
 
-      pub below-last : 0 < count → lt (part count) x ≡ true → Below x count
-      below-last h e = record { most = none.most; is = λ m l. by m l (dec_lt m count) }
+      pub below_last : 0 < count → lt (part count) x ≡ true → Below x count
+      below_last h e = record { most = none.most; is = λ m l. by m l (dec_lt m count) }
         where
           by : (m : ℕ) → m < 31 → Dec (m < count) → lt (part (m + 1)) x ≡ ltb m count
           by m l (yes p) =
               let f : count ≡ count - 1 + 1 = omega arith in
               let most = none.most in
-              first-below m (count - 1) (omega arith) (omega arith) (rw (← f) e) ∙ sym (lt-ltb m count p)
+              first_below m (count - 1) (omega arith) (omega arith) (rw (← f) e) ∙ sym (lt-ltb m count p)
           by m l (no p) = none.none m (omega arith) l ∙ sym (le-ltb m count (omega arith))
 
-      pub below-none : count ≤ 0 → Below x count
-      below-none h = record { most = none.most; is = λ m l. none.none m (omega arith) l ∙ sym (le-ltb m count (omega arith)) }
+      pub below_none : count ≤ 0 → Below x count
+      below_none h = record { most = none.most; is = λ m l. none.none m (omega arith) l ∙ sym (le-ltb m count (omega arith)) }
 
 -- ---- the lines between two numbers
 
@@ -145,16 +145,16 @@ between m p q h = by (dec_lt m p) (dec_lt m q)
     by (no k) (yes l) = rw (le-ltb m p (omega arith), lt-ltb m q l, le-leb p m (omega arith))
     by (no k) (no l) = rw (le-ltb m p (omega arith), le-ltb m q (omega arith), le-leb p m (omega arith))
 
-xor-comm : (a b : Bool) → xor a b ≡ xor b a
+xor_comm : (a b : Bool) → xor a b ≡ xor b a
 unfolding xor
-xor-comm true true = refl
-xor-comm true false = refl
-xor-comm false true = refl
-xor-comm false false = refl
+xor_comm true true = refl
+xor_comm true false = refl
+xor_comm false true = refl
+xor_comm false false = refl
 
-module _ (a b : Float) (p q : ℕ) (below-a : Below a p) (below-b : Below b q) where
-  pub parted-up : p ≤ q → Parted a b p q
-  parted-up h = record { order = h; most = below-b.most; is = λ m l. rw (below-a.is m l, below-b.is m l) (between m p q h) }
+module _ (a b : Float) (p q : ℕ) (below_a : Below a p) (below_b : Below b q) where
+  pub parted_up : p ≤ q → Parted a b p q
+  parted_up h = record { order = h; most = below_b.most; is = λ m l. rw (below_a.is m l, below_b.is m l) (between m p q h) }
 
-  pub parted-down : q ≤ p → Parted a b q p
-  parted-down h = record { order = h; most = below-a.most; is = λ m l. rw (below-a.is m l, below-b.is m l) (xor-comm (ltb m p) (ltb m q) ∙ between m q p h) }
+  pub parted_down : q ≤ p → Parted a b q p
+  parted_down h = record { order = h; most = below_a.most; is = λ m l. rw (below_a.is m l, below_b.is m l) (xor_comm (ltb m p) (ltb m q) ∙ between m q p h) }

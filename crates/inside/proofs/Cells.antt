@@ -9,13 +9,13 @@ use native.Mathlib.Omega.{arith}
 use lib.ListN.{length, get_or, take, drop, set, length-set, length-map}
 use lib.Seq.{get_or-set_same, get_or-set_other, get_or-take, get_or-drop, ext_get_or}
 use Rattle.sheet.specs.Content.{Point}
-use Rattle.points.proofs.Anew.{anew, anew-length, anew-before, anew-in, anew-after}
+use Rattle.points.proofs.Anew.{anew, anew_length, anew_before, anew_in, anew_after}
 use Rattle.answers.specs.Lists.{over}
-use Rattle.answers.proofs.Over.{over-all}
-use Rattle.points.specs.Grid.{upFrom, gridOf}
-use Rattle.inside.specs.Inside.{insideOf}
-use Rattle.inside.specs.Lines.{Holds, byRows, flippedBy}
-use Rattle.points.proofs.GridOrder.{up-length, row-at, grid-length, grid-nth}
+use Rattle.answers.proofs.Over.{over_all}
+use Rattle.points.specs.Grid.{up_from, grid_of}
+use Rattle.inside.specs.Inside.{inside_of}
+use Rattle.inside.specs.Lines.{Holds, by_rows, flipped_by}
+use Rattle.points.proofs.GridOrder.{up_length, row_at_lem, grid_length, grid_nth}
 
 -- ---- cells that change by their place, one after the other or line after line
 
@@ -26,8 +26,8 @@ module _ {A : Type 0} (none : A) (size : ℕ) (change : ℕ → A → A) (old : 
     pub done : (k : ℕ) → k < at → get_or l k none ≡ change k (get_or old k none)
     pub left : (k : ℕ) → at ≤ k → get_or l k none ≡ get_or old k none
 
-  pub none-changed : length old ≡ size → Changed 0 old
-  none-changed h = record { count = h; done = λ k l. absurd (omega arith); left = λ k l. refl }
+  pub none_changed : length old ≡ size → Changed 0 old
+  none_changed h = record { count = h; done = λ k l. absurd (omega arith); left = λ k l. refl }
 
   module _ (at : ℕ) (l : List A) (c : Changed at l) where
     -- places that ask no change
@@ -39,8 +39,8 @@ module _ {A : Type 0} (none : A) (size : ℕ) (change : ℕ → A → A) (old : 
         by k n (no p) = c.left k (omega arith) ∙ sym (same k (omega arith) n)
 
     -- one cell
-    pub cell-changed : at < size → (a : A) → a ≡ change at (get_or l at none) → Changed (at + 1) (set l at a)
-    cell-changed h a e = record { count = length-set l at a ∙ c.count; done = λ k n. by k n (dec_lt k at); left = λ k n. get_or-set_other l at k a none (omega arith) ∙ c.left k (omega arith) }
+    pub cell_changed : at < size → (a : A) → a ≡ change at (get_or l at none) → Changed (at + 1) (set l at a)
+    cell_changed h a e = record { count = length-set l at a ∙ c.count; done = λ k n. by k n (dec_lt k at); left = λ k n. get_or-set_other l at k a none (omega arith) ∙ c.left k (omega arith) }
       where
         by : (k : ℕ) → k < at + 1 → Dec (k < at) → get_or (set l at a) k none ≡ change k (get_or old k none)
         by k n (yes p) = get_or-set_other l at k a none (omega arith) ∙ c.done k p
@@ -49,50 +49,50 @@ module _ {A : Type 0} (none : A) (size : ℕ) (change : ℕ → A → A) (old : 
             rw f (get_or-set_same l at a none (omega (arith, c.count)) ∙ e ∙ ap (change at) (c.left at (omega arith)))
 
     -- a line of x cells, as it stands by itself and written anew
-    pub in-line : (x m : ℕ) → m < x → get_or (take x (drop at l)) m none ≡ get_or old (at + m) none
-    in-line x m h = get_or-take x (drop at l) m none h ∙ get_or-drop at l m none ∙ c.left (at + m) (omega arith)
+    pub in_line : (x m : ℕ) → m < x → get_or (take x (drop at l)) m none ≡ get_or old (at + m) none
+    in_line x m h = get_or-take x (drop at l) m none h ∙ get_or-drop at l m none ∙ c.left (at + m) (omega arith)
 
     module _ (x next : ℕ) (to : next ≡ at + x) (room : next ≤ size) (ys : List A) (value : ℕ → A) (new : Holds none x ys value) where
-      pub line-changed : ((m : ℕ) → m < x → value m ≡ change (at + m) (get_or old (at + m) none)) → Changed next (anew l ys at x)
-      line-changed meant = record { count = anew-length none l ys at x new.count fit ∙ c.count; done = λ k n. by k n (dec_lt k at); left = λ k n. anew-after none l ys at x new.count fit k (omega arith) ∙ c.left k (omega arith) }
+      pub line_changed : ((m : ℕ) → m < x → value m ≡ change (at + m) (get_or old (at + m) none)) → Changed next (anew l ys at x)
+      line_changed meant = record { count = anew_length none l ys at x new.count fit ∙ c.count; done = λ k n. by k n (dec_lt k at); left = λ k n. anew_after none l ys at x new.count fit k (omega arith) ∙ c.left k (omega arith) }
         where
           fit : at + x ≤ length l
           fit = let n = c.count in omega arith
 
           by : (k : ℕ) → k < next → Dec (k < at) → get_or (anew l ys at x) k none ≡ change k (get_or old k none)
-          by k n (yes p) = anew-before none l ys at x new.count fit k p ∙ c.done k p
+          by k n (yes p) = anew_before none l ys at x new.count fit k p ∙ c.done k p
           by k n (no p) =
               let m = k - at in
               let e : at + m ≡ k = omega arith in
-              rw (← e) (anew-in none l ys at x new.count fit m (omega arith) ∙ new.is m (omega arith) ∙ meant m (omega arith))
+              rw (← e) (anew_in none l ys at x new.count fit m (omega arith) ∙ new.is m (omega arith) ∙ meant m (omega arith))
 
-    pub all-changed : size ≤ at → Holds none size l (λ (k : ℕ). change k (get_or old k none))
-    all-changed h = record { count = c.count; is = λ k n. c.done k (omega arith) }
+    pub all_changed : size ≤ at → Holds none size l (λ (k : ℕ). change k (get_or old k none))
+    all_changed h = record { count = c.count; is = λ k n. c.done k (omega arith) }
 
 -- ---- what all cells hold is the list
 
 -- in the grid's order
-pub all-grid : {A : Type 0} (none : A) (l : List A) (f : ℕ → ℕ → A) → Holds none 961 l (λ (k : ℕ). f (k / 31 + 1) (k % 31 + 1)) → l ≡ gridOf f
-all-grid none l f h = ext_get_or none l (gridOf f) (h.count ∙ sym (grid-length f)) (λ k n. let m : k < 961 = omega (arith, h.count) in h.is k m ∙ sym (grid-nth f none k m))
+pub all_grid : {A : Type 0} (none : A) (l : List A) (f : ℕ → ℕ → A) → Holds none 961 l (λ (k : ℕ). f (k / 31 + 1) (k % 31 + 1)) → l ≡ grid_of f
+all_grid none l f h = ext_get_or none l (grid_of f) (h.count ∙ sym (grid_length f)) (λ k n. let m : k < 961 = omega (arith, h.count) in h.is k m ∙ sym (grid_nth f none k m))
 
 -- by rows, each flipped by a ring
 module _ (ring : List Point) (cells : List Bool) where
-  pub flipped-length : length (flippedBy ring cells) ≡ 961
-  unfolding flippedBy
-  flipped-length = length-map (upFrom 0 961) _ ∙ up-length 0 961
+  pub flipped_length : length (flipped_by ring cells) ≡ 961
+  unfolding flipped_by
+  flipped_length = length-map (up_from 0 961) _ ∙ up_length 0 961
 
-  flipped-at : (k : ℕ) → k < 961 → get_or (flippedBy ring cells) k false ≡ xor (get_or cells k false) (insideOf ring (byRows k))
-  unfolding flippedBy
-  flipped-at k h =
+  flipped_at : (k : ℕ) → k < 961 → get_or (flipped_by ring cells) k false ≡ xor (get_or cells k false) (inside_of ring (by_rows k))
+  unfolding flipped_by
+  flipped_at k h =
       let e : 0 + k ≡ k = omega arith in
-      row-at (λ (i k : ℕ). xor (get_or cells k false) (insideOf ring (byRows k))) false 0 0 961 k h ∙ rw e
+      row_at_lem (λ (i k : ℕ). xor (get_or cells k false) (inside_of ring (by_rows k))) false 0 0 961 k h ∙ rw e
 
   module _ {l : List Bool} where
-    pub all-flipped : Holds false 961 l (λ (k : ℕ). xor (get_or cells k false) (insideOf ring (byRows k))) → l ≡ flippedBy ring cells
-    all-flipped h = ext_get_or false l (flippedBy ring cells) (h.count ∙ sym flipped-length) (λ k n. let m : k < 961 = omega (arith, h.count) in h.is k m ∙ sym (flipped-at k m))
+    pub all_flipped : Holds false 961 l (λ (k : ℕ). xor (get_or cells k false) (inside_of ring (by_rows k))) → l ≡ flipped_by ring cells
+    all_flipped h = ext_get_or false l (flipped_by ring cells) (h.count ∙ sym flipped_length) (λ k n. let m : k < 961 = omega (arith, h.count) in h.is k m ∙ sym (flipped_at k m))
 
     -- over just so many cells
-    pub flipped-cells : length cells ≡ 961 → l ≡ over (flippedBy ring cells) cells → Holds false 961 l (λ (k : ℕ). xor (get_or cells k false) (insideOf ring (byRows k)))
-    flipped-cells h e =
-        let f : l ≡ flippedBy ring cells = e ∙ over-all (flippedBy ring cells) cells (h ∙ sym flipped-length) in
-        record { count = rw f flipped-length; is = λ k n. rw f (flipped-at k n) }
+    pub flipped_cells : length cells ≡ 961 → l ≡ over (flipped_by ring cells) cells → Holds false 961 l (λ (k : ℕ). xor (get_or cells k false) (inside_of ring (by_rows k)))
+    flipped_cells h e =
+        let f : l ≡ flipped_by ring cells = e ∙ over_all (flipped_by ring cells) cells (h ∙ sym flipped_length) in
+        record { count = rw f flipped_length; is = λ k n. rw f (flipped_at k n) }

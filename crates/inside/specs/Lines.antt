@@ -4,8 +4,8 @@ use Rattle.std.specs.Prelude.{◌≡◌, Bool, false, ◌&&◌, List, map, ℕ, 
 use Rattle.std.specs.Bool.{xor}
 use Rattle.std.specs.Float.Ieee.{lt}
 use Rattle.sheet.specs.Content.{Point}
-use Rattle.inside.specs.Inside.{insideOf}
-use Rattle.points.specs.Grid.{part, gridPoint, upFrom}
+use Rattle.inside.specs.Inside.{inside_of}
+use Rattle.points.specs.Grid.{part, grid_point, up_from}
 
 -- ---- the lines 1/32 to 31/32 and a number
 
@@ -33,22 +33,22 @@ pub record Holds {A : Type 0} (none : A) (size : ℕ) (cells : List A) (value : 
   pub is : (k : ℕ) → k < size → get_or cells k none ≡ value k
 
 -- the grid point in place k of the grid's order: the points of a column, which have one u, side by side
-unfoldable pub byColumns : ℕ → Point
-unfolding gridPoint
-byColumns k = gridPoint (k / 31 + 1) (k % 31 + 1)
+unfoldable pub by_columns : ℕ → Point
+unfolding grid_point
+by_columns k = grid_point (k / 31 + 1) (k % 31 + 1)
 
 -- the one in place k where the points of a row, which have one v, stand side by side
-unfoldable pub byRows : ℕ → Point
-unfolding gridPoint
-byRows k = gridPoint (k % 31 + 1) (k / 31 + 1)
+unfoldable pub by_rows : ℕ → Point
+unfolding grid_point
+by_rows k = grid_point (k % 31 + 1) (k / 31 + 1)
 
 -- where the grid point in place k of the grid's order stands by rows
-abbrev pub inRows : ℕ → ℕ
-inRows k = k % 31 * 31 + k / 31
+abbrev pub in_rows : ℕ → ℕ
+in_rows k = k % 31 * 31 + k / 31
 
 -- ---- what rings flip
 
 -- 961 cells by rows, each xored with whether its grid point is inside the ring
-unfoldable pub flippedBy : List Point → List Bool → List Bool
-unfolding insideOf byRows
-flippedBy ring cells = map (λ (k : ℕ). xor (get_or cells k false) (insideOf ring (byRows k))) (upFrom 0 961)
+unfoldable pub flipped_by : List Point → List Bool → List Bool
+unfolding inside_of by_rows
+flipped_by ring cells = map (λ (k : ℕ). xor (get_or cells k false) (inside_of ring (by_rows k))) (up_from 0 961)

@@ -3,8 +3,8 @@ ghost use Rattle.std.specs.Prelude.{◌≡◌, false, ℕ, ◌≤◌, ltb, lengt
 ghost use Rattle.std.specs.Bool.{xor};
 ghost use Rattle.sheet.specs.Content.{point, pairs};
 ghost use Rattle.answers.specs.Lists.{over};
-ghost use Rattle.inside.specs.Inside.{flips, insideOf};
-ghost use Rattle.inside.specs.Lines.{Below, Parted, Holds, byRows, flippedBy};
+ghost use Rattle.inside.specs.Inside.{flips, inside_of};
+ghost use Rattle.inside.specs.Lines.{Below, Parted, Holds, by_rows, flipped_by};
 
 use crate::grid_lines::lines_below;
 use points::part;
@@ -29,7 +29,7 @@ fn flip_row(count: u32, row: &mut [bool])
 // a row stand side by side.
 fn flip_rows(a_u: f64, a_v: f64, b_u: f64, b_v: f64, low: u32, high: u32, cells: &mut [bool])
     requires { (Parted a_v b_v low high) × (length cells.old ≡ 961) }
-    ensures { Holds false 961 cells.new (λ (k : ℕ). xor (get_or cells.old k false) (flips (byRows k) (point a_u a_v) (point b_u b_v))) }
+    ensures { Holds false 961 cells.new (λ (k : ℕ). xor (get_or cells.old k false) (flips (by_rows k) (point a_u a_v) (point b_u b_v))) }
 {
     let mut count: u32 = 0;
     let mut j = low;
@@ -47,7 +47,7 @@ fn flip_rows(a_u: f64, a_v: f64, b_u: f64, b_v: f64, low: u32, high: u32, cells:
 // between the two counts, and no others.
 fn flip_edge(a_u: f64, a_v: f64, below_a: u32, b_u: f64, b_v: f64, below_b: u32, cells: &mut [bool])
     requires { (Below a_v below_a) × (Below b_v below_b) × (length cells.old ≡ 961) }
-    ensures { Holds false 961 cells.new (λ (k : ℕ). xor (get_or cells.old k false) (flips (byRows k) (point a_u a_v) (point b_u b_v))) }
+    ensures { Holds false 961 cells.new (λ (k : ℕ). xor (get_or cells.old k false) (flips (by_rows k) (point a_u a_v) (point b_u b_v))) }
 {
     if below_a < below_b {
         flip_rows(a_u, a_v, b_u, b_v, below_a, below_b, cells);
@@ -59,7 +59,7 @@ fn flip_edge(a_u: f64, a_v: f64, below_a: u32, b_u: f64, b_v: f64, below_b: u32,
 // Flips each cell whose grid point is inside the ring, row after row.
 fn flip_cells(ring: &[f64], cells: &mut [bool])
     requires { length cells.old ≡ 961 }
-    ensures { Holds false 961 cells.new (λ (k : ℕ). xor (get_or cells.old k false) (insideOf (pairs ring.now) (byRows k))) }
+    ensures { Holds false 961 cells.new (λ (k : ℕ). xor (get_or cells.old k false) (inside_of (pairs ring.now) (by_rows k))) }
 {
     let count = ring.len() / 2;
     if count == 0 {
@@ -85,7 +85,7 @@ fn flip_cells(ring: &[f64], cells: &mut [bool])
 // Flips, of the first 961 cells, each whose grid point is inside the ring. The cells stand row after row; those
 // behind them keep their contents, and a list of fewer stays as it is.
 pub fn flip_ring(ring: &[f64], cells: &mut [bool])
-    ensures { cells.new ≡ over (flippedBy (pairs ring.now) cells.old) cells.old }
+    ensures { cells.new ≡ over (flipped_by (pairs ring.now) cells.old) cells.old }
 {
     if cells.len() < GRID_POINTS {
         return;

@@ -3,8 +3,8 @@ ghost use Rattle.std.specs.Prelude.{◌≡◌};
 ghost use Rattle.std.specs.Bool.{xor};
 ghost use Rattle.std.specs.Float.Ieee.{lt};
 ghost use Rattle.sheet.specs.Content.{point, pairs};
-ghost use Rattle.points.specs.Segments.{segmentOf};
-ghost use Rattle.inside.specs.Inside.{flips, insideOf};
+ghost use Rattle.points.specs.Segments.{segment_of};
+ghost use Rattle.inside.specs.Inside.{flips, inside_of};
 
 use points::Segment;
 
@@ -17,7 +17,7 @@ pub fn just_one_above(a: f64, b: f64, x: f64) -> bool
 
 // Whether the edge between a and b, the point before it, flips `inside` at (u, v).
 fn is_flip(u: f64, v: f64, s: Segment) -> bool
-    ensures { result ≡ flips (point u v) (segmentOf s).a (segmentOf s).b }
+    ensures { result ≡ flips (point u v) (segment_of s).a (segment_of s).b }
 {
     let a_u = s.a_u;
     let a_v = s.a_v;
@@ -32,7 +32,7 @@ fn is_flip(u: f64, v: f64, s: Segment) -> bool
 
 // Whether (u, v) is inside the ring.
 pub fn inside(ring: &[f64], u: f64, v: f64) -> bool
-    ensures { result ≡ insideOf (pairs ring.now) (point u v) }
+    ensures { result ≡ inside_of (pairs ring.now) (point u v) }
 {
     let count = ring.len() / 2;
     if count == 0 {

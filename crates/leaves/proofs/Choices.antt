@@ -4,13 +4,13 @@
 -- -0 two steps may change places.
 use Rattle.std.proofs.Common.{◌≡◌, Bool, true, false, cond, not, T, sym, refl, ◌∙◌}
 use lib.Ieee.{Float, Format, fits, is_nan, lt, le}
-use Rattle.leaves.proofs.Order.{le-self, lt→le, lt-asym, lt-left, lt-right, lt-trans, minusZero, not-lt→le, same}
-use Rattle.leaves.specs.Bounds.{smallerOf, largerOf}
+use Rattle.leaves.proofs.Order.{le_self, lt→le, lt_asym, lt_left, lt_right, lt_trans, minus_zero, not-lt→le, same}
+use Rattle.leaves.specs.Bounds.{smaller_of, larger_of}
 
 -- a value that the format holds and that is not -0. It may be a NaN.
 pub record Clear (f : Format) (x : Float) : Type 0 where
   pub held : T (fits f x)
-  pub unmarked : T (not (minusZero x))
+  pub unmarked : T (not (minus_zero x))
 
 -- what holds of an answer
 either : (P : Float → Type 0) (c : Bool) (x y : Float) → (T c → P x) → (T (not c) → P y) → P (cond c x y)
@@ -37,59 +37,59 @@ swapped false true true yx x y s p q r e = absurd (q tt tt)
 swapped false true false yx x y s p q r e = refl
 swapped false false xy yx x y s p q r e = refl
 
-two-steps : (less : Float → Float → Bool) (x y s : Float) (c : Bool) → cond (less y (cond c x s)) y (cond c x s) ≡ cond c (cond (less y x) y x) (cond (less y s) y s)
-two-steps less x y s true = refl
-two-steps less x y s false = refl
+two_steps : (less : Float → Float → Bool) (x y s : Float) (c : Bool) → cond (less y (cond c x s)) y (cond c x s) ≡ cond c (cond (less y x) y x) (cond (less y s) y s)
+two_steps less x y s true = refl
+two_steps less x y s false = refl
 
-steps-swap : (less : Float → Float → Bool) (x y s : Float) → (T (less x y) → T (less y x) → ⊥) → (T (less x y) → T (less y s) → T (less x s)) → (T (less y x) → T (less x s) → T (less y s))
+steps_swap : (less : Float → Float → Bool) (x y s : Float) → (T (less x y) → T (less y x) → ⊥) → (T (less x y) → T (less y s) → T (less x s)) → (T (less y x) → T (less x s) → T (less y s))
     → (T (less x s) → T (less y s) → T (not (less x y)) → T (not (less y x)) → x ≡ y)
     → cond (less y (cond (less x s) x s)) y (cond (less x s) x s) ≡ cond (less x (cond (less y s) y s)) x (cond (less y s) y s)
-steps-swap less x y s p q r e = two-steps less x y s (less x s) ∙ swapped (less x s) (less y s) (less x y) (less y x) x y s p q r e ∙ sym (two-steps less y x s (less y s))
+steps_swap less x y s p q r e = two_steps less x y s (less x s) ∙ swapped (less x s) (less y s) (less x y) (less y x) x y s p q r e ∙ sym (two_steps less y x s (less y s))
 
 -- ---- smaller-of
 
-pub smaller-by-test : (a b : Float) → smallerOf a b ≡ cond (lt b a) b a
-unfolding smallerOf
-smaller-by-test a b = refl
+pub smaller_by_test : (a b : Float) → smaller_of a b ≡ cond (lt b a) b a
+unfolding smaller_of
+smaller_by_test a b = refl
 
 -- what holds of both holds of the answer
-pub smaller-keeps : (P : Float → Type 0) (a b : Float) → P a → P b → P (smallerOf a b)
-unfolding smallerOf
-smaller-keeps P a b p q = either P (lt b a) b a (λ t. q) (λ t. p)
+pub smaller_keeps : (P : Float → Type 0) (a b : Float) → P a → P b → P (smaller_of a b)
+unfolding smaller_of
+smaller_keeps P a b p q = either P (lt b a) b a (λ t. q) (λ t. p)
 
-pub smaller-number : (a b : Float) → T (not (is_nan a)) → T (not (is_nan (smallerOf a b)))
-unfolding smallerOf
-smaller-number a b n = either (λ (x : Float). T (not (is_nan x))) (lt b a) b a (lt-left b a) (λ t. n)
+pub smaller_number : (a b : Float) → T (not (is_nan a)) → T (not (is_nan (smaller_of a b)))
+unfolding smaller_of
+smaller_number a b n = either (λ (x : Float). T (not (is_nan x))) (lt b a) b a (lt_left b a) (λ t. n)
 
-pub smaller-le-first : (a b : Float) → T (not (is_nan a)) → T (le (smallerOf a b) a)
-unfolding smallerOf
-smaller-le-first a b n = either (λ (x : Float). T (le x a)) (lt b a) b a (lt→le b a) (λ t. le-self a n)
+pub smaller_le_first : (a b : Float) → T (not (is_nan a)) → T (le (smaller_of a b) a)
+unfolding smaller_of
+smaller_le_first a b n = either (λ (x : Float). T (le x a)) (lt b a) b a (lt→le b a) (λ t. le_self a n)
 
-pub smaller-le-second : (a b : Float) → T (not (is_nan a)) → T (not (is_nan b)) → T (le (smallerOf a b) b)
-unfolding smallerOf
-smaller-le-second a b n o = either (λ (x : Float). T (le x b)) (lt b a) b a (λ t. le-self b o) (not-lt→le b a o n)
+pub smaller_le_second : (a b : Float) → T (not (is_nan a)) → T (not (is_nan b)) → T (le (smaller_of a b) b)
+unfolding smaller_of
+smaller_le_second a b n o = either (λ (x : Float). T (le x b)) (lt b a) b a (λ t. le_self b o) (not-lt→le b a o n)
 
 -- s may be anything that fits, a and b may be NaNs
-pub smaller-swap : (f : Format) (s a b : Float) → T (fits f s) → Clear f a → Clear f b → smallerOf (smallerOf s a) b ≡ smallerOf (smallerOf s b) a
-unfolding smallerOf
-smaller-swap f s a b h p q =
-    steps-swap lt a b s (lt-asym a b) (lt-trans f a b s p.held q.held h) (lt-trans f b a s q.held p.held h)
-    (λ t u v w. same f a b p.held q.held (lt-left a s t) (lt-left b s u) p.unmarked q.unmarked v w)
+pub smaller_swap : (f : Format) (s a b : Float) → T (fits f s) → Clear f a → Clear f b → smaller_of (smaller_of s a) b ≡ smaller_of (smaller_of s b) a
+unfolding smaller_of
+smaller_swap f s a b h p q =
+    steps_swap lt a b s (lt_asym a b) (lt_trans f a b s p.held q.held h) (lt_trans f b a s q.held p.held h)
+    (λ t u v w. same f a b p.held q.held (lt_left a s t) (lt_left b s u) p.unmarked q.unmarked v w)
 
 -- ---- larger-of
 
-pub larger-by-test : (a b : Float) → largerOf a b ≡ cond (lt a b) b a
-unfolding largerOf
-larger-by-test a b = refl
+pub larger_by_test : (a b : Float) → larger_of a b ≡ cond (lt a b) b a
+unfolding larger_of
+larger_by_test a b = refl
 
 -- what holds of both holds of the answer
-pub larger-keeps : (P : Float → Type 0) (a b : Float) → P a → P b → P (largerOf a b)
-unfolding largerOf
-larger-keeps P a b p q = either P (lt a b) b a (λ t. q) (λ t. p)
+pub larger_keeps : (P : Float → Type 0) (a b : Float) → P a → P b → P (larger_of a b)
+unfolding larger_of
+larger_keeps P a b p q = either P (lt a b) b a (λ t. q) (λ t. p)
 
 -- s may be anything that fits, a and b may be NaNs
-pub larger-swap : (f : Format) (s a b : Float) → T (fits f s) → Clear f a → Clear f b → largerOf (largerOf s a) b ≡ largerOf (largerOf s b) a
-unfolding largerOf
-larger-swap f s a b h p q =
-    steps-swap (λ (x y : Float). lt y x) a b s (lt-asym b a) (λ t u. lt-trans f s b a h q.held p.held u t) (λ t u. lt-trans f s a b h p.held q.held u t)
-    (λ t u v w. same f a b p.held q.held (lt-right s a t) (lt-right s b u) p.unmarked q.unmarked w v)
+pub larger_swap : (f : Format) (s a b : Float) → T (fits f s) → Clear f a → Clear f b → larger_of (larger_of s a) b ≡ larger_of (larger_of s b) a
+unfolding larger_of
+larger_swap f s a b h p q =
+    steps_swap (λ (x y : Float). lt y x) a b s (lt_asym b a) (λ t u. lt_trans f s b a h q.held p.held u t) (λ t u. lt_trans f s a b h p.held q.held u t)
+    (λ t u v w. same f a b p.held q.held (lt_right s a t) (lt_right s b u) p.unmarked q.unmarked w v)

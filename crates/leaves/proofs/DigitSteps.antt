@@ -6,10 +6,10 @@ use Rattle.std.proofs.Common.{◌≡◌, ℕ, zero, suc, ◌+◌, ◌-◌, ◌*�
 use native.Mathlib.Nat.{sub-zero}
 use lib.Dec.{nleb→lt}
 use lib.Pow.{pow-lt}
-use Rattle.leaves.specs.Root.{wholeRoot}
-use Rattle.leaves.specs.Engine.{radicand, digitOf, Started}
-use Rattle.leaves.proofs.Squares.{square-add}
-use Rattle.leaves.proofs.WholeRoots.{root-is}
+use Rattle.leaves.specs.Root.{whole_root}
+use Rattle.leaves.specs.Engine.{radicand, digit_of, Started}
+use Rattle.leaves.proofs.Squares.{square_add}
+use Rattle.leaves.proofs.WholeRoots.{root_is}
 
 pub record Found (n found left place : ℕ) : Type 0 where
   pub small : found + 2 ^ place ≤ 2 ^ 54
@@ -22,16 +22,16 @@ started root places rest h = record { small = h.small; exact = omega (arith, h.w
 -- ---- bounds
 
 -- left * w is below twice (found + w) * (found + w) - found * found
-below-four : (n found left w : ℕ) → 0 < w → 2 * (found * found) + left * w ≡ 2 * n → n < (found + w) * (found + w) → left < 4 * found + 2 * w
-below-four n found left w pos e h =
+below_four : (n found left w : ℕ) → 0 < w → 2 * (found * found) + left * w ≡ 2 * n → n < (found + w) * (found + w) → left < 4 * found + 2 * w
+below_four n found left w pos e h =
     let x : (4 * found + 2 * w) * w ≡ 4 * (found * w) + 2 * (w * w) = add-mul (4 * found) (2 * w) w ∙ regroup found w in
-    lt_of_mul-lt-mul_right w (omega (arith, square-add found w))
+    lt_of_mul-lt-mul_right w (omega (arith, square_add found w))
   where
     regroup : (f w : ℕ) → 4 * f * w + 2 * w * w ≡ 4 * (f * w) + 2 * (w * w)
     regroup f w = omega (arith, mul_assoc 4 f w, mul_assoc 2 w w)
 
-pub left-small : (n found left place : ℕ) → Found n found left place → left < 2 ^ 56
-left-small n found left place h = let l = below-four n found left (2 ^ place) (pow_pos place) h.exact h.near in omega (arith, h.small)
+pub left_small : (n found left place : ℕ) → Found n found left place → left < 2 ^ 56
+left_small n found left place h = let l = below_four n found left (2 ^ place) (pow_pos place) h.exact h.near in omega (arith, h.small)
 
 -- ---- one step, over the weight w of the digit
 
@@ -41,7 +41,7 @@ one n found left w e l =
     let d = left - (found + found + w) in
     let x : left ≡ found + found + w + d = omega arith in
     let y : left * (w * 2) ≡ 4 * (found * w) + 2 * (w * w) + d * 2 * w = ap (λ (z : ℕ). z * (w * 2)) x ∙ spread found w d in
-    omega (arith, square-add found w)
+    omega (arith, square_add found w)
   where
     spread : (f w d : ℕ) → (f + f + w + d) * (w * 2) ≡ 4 * (f * w) + 2 * (w * w) + d * 2 * w
     spread f w d = simp add-mul (omega (arith, mul_assoc f w 2, mul_assoc w w 2, mul_assoc d w 2, mul_right_comm d 2 w))
@@ -53,7 +53,7 @@ none n found left w pos e l =
     let z : left * w < (found + found + w) * w = mul-lt-mul_of_pos_right l pos in
     let u : (found + found + w) * w ≡ 2 * (found * w) + w * w = spread found w in
     let v : left * 2 * w ≡ 2 * (left * w) = mul_right_comm left 2 w ∙ mul_comm (left * w) 2 in
-    (omega arith, omega (arith, square-add found w))
+    (omega arith, omega (arith, square_add found w))
   where
     spread : (f w : ℕ) → (f + f + w) * w ≡ 2 * (f * w) + w * w
     spread f w = simp add-mul (omega arith)
@@ -65,8 +65,8 @@ pub record Stepped (n found left place s d : ℕ) : Type 0 where
   pub fits : s * d ≤ left
   pub next : Found n (found + d * 2 ^ place) ((left - s * d) * 2) place
 
-stepped-one : (n found left place : ℕ) → Found n found left (suc place) → found + found + 2 ^ place ≤ left → Stepped n found left place (found + found + 2 ^ place) 1
-stepped-one n found left place h l =
+stepped_one : (n found left place : ℕ) → Found n found left (suc place) → found + found + 2 ^ place ≤ left → Stepped n found left place (found + found + 2 ^ place) 1
+stepped_one n found left place h l =
     let w = 2 ^ place in
     let s = found + found + w in
     let e : 2 ^ suc place ≡ w * 2 = pow-suc 2 place in
@@ -82,8 +82,8 @@ stepped-one n found left place h l =
     twice : (f w : ℕ) {z : ℕ} → z ≡ w * 2 → f + z ≡ f + w + w
     twice f w e = omega arith
 
-stepped-none : (n found left place : ℕ) → Found n found left (suc place) → left < found + found + 2 ^ place → Stepped n found left place (found + found + 2 ^ place) 0
-stepped-none n found left place h l =
+stepped_none : (n found left place : ℕ) → Found n found left (suc place) → left < found + found + 2 ^ place → Stepped n found left place (found + found + 2 ^ place) 0
+stepped_none n found left place h l =
     let w = 2 ^ place in
     let s = found + found + w in
     let e : 2 ^ suc place ≡ w * 2 = pow-suc 2 place in
@@ -96,24 +96,24 @@ stepped-none n found left place h l =
       next = subst (λ (z : ℕ). Found n z ((left - s * 0) * 2) place) (sym (ap (λ (z : ℕ). found + z) (zero-mul w) ∙ add-zero found)) (subst (λ (z : ℕ). Found n found (z * 2) place) (sym (ap (λ (z : ℕ). left - z) (mul-zero s) ∙ sub-zero left)) next);
     }
 
-pub stepped : (n found left place : ℕ) → Found n found left (suc place) → Stepped n found left place (found + found + 2 ^ place) (digitOf (found + found + 2 ^ place) left)
+pub stepped : (n found left place : ℕ) → Found n found left (suc place) → Stepped n found left place (found + found + 2 ^ place) (digit_of (found + found + 2 ^ place) left)
 stepped n found left place h = go (leb (found + found + 2 ^ place) left) (leb→le (found + found + 2 ^ place) left) (nleb→lt (found + found + 2 ^ place) left)
   where
     go : (b : Bool) → (T b → found + found + 2 ^ place ≤ left) → (T (not b) → left < found + found + 2 ^ place) → Stepped n found left place (found + found + 2 ^ place) (cond b 1 0)
-    go true p q = stepped-one n found left place h (p tt)
-    go false p q = stepped-none n found left place h (q tt)
+    go true p q = stepped_one n found left place h (p tt)
+    go false p q = stepped_none n found left place h (q tt)
 
 -- a digit that is shifted to its place loses nothing: at most 54 places are used
 pub shifted : (place digit : ℕ) → place < 54 → digit ≤ 1 → digit * 2 ^ place % 2 ^ 64 ≡ digit * 2 ^ place
 shifted place digit p d = mod-eq_of_lt (lt_of_le_of_lt (mul-le-mul_right (2 ^ place) d) (subst (λ (z : ℕ). z < 2 ^ 64) (sym (one-mul (2 ^ place))) (pow-lt {j = 64} (omega arith))))
 
-pub few-places : (n found left place : ℕ) → Found n found left place → place ≤ 54
-few-places n found left place h = le_of_suc-le-suc (lt_of_not-le (λ (g : 55 ≤ place). not-le_of_lt (pow-lt {i = 54} g) (le_trans (le-add_left (2 ^ place) found) h.small)))
+pub few_places : (n found left place : ℕ) → Found n found left place → place ≤ 54
+few_places n found left place h = le_of_suc-le-suc (lt_of_not-le (λ (g : 55 ≤ place). not-le_of_lt (pow-lt {i = 54} g) (le_trans (le-add_left (2 ^ place) found) h.small)))
 
 -- ---- no digit is left to be found
 
-pub finished : (n found left : ℕ) → Found n found left 0 → (wholeRoot n ≡ found) × (n - found * found ≡ left / 2)
-finished n found left h = (root-is n found (record { reached = omega (arith, h.exact); past = h.near }), omega (arith, h.exact))
+pub finished : (n found left : ℕ) → Found n found left 0 → (whole_root n ≡ found) × (n - found * found ≡ left / 2)
+finished n found left h = (root_is n found (record { reached = omega (arith, h.exact); past = h.near }), omega (arith, h.exact))
 
 -- ---- a turn of the loop, with the digit of the given place to be found
 
@@ -122,7 +122,7 @@ pub record Turn (n found left place : ℕ) : Type 0 where
   pub room : found + 2 ^ place * 2 ≤ 2 ^ 54
   pub rest : left < 2 ^ 56
   pub weight : 1 * 2 ^ place % 2 ^ 64 ≡ 2 ^ place
-  pub step : Stepped n found left place (found + found + 2 ^ place) (digitOf (found + found + 2 ^ place) left)
+  pub step : Stepped n found left place (found + found + 2 ^ place) (digit_of (found + found + 2 ^ place) left)
 
 pub turn : (n found left place : ℕ) → Found n found left place → 0 < place → Turn n found left (place - 1)
 turn n found left zero h p = absurd (lt_irrefl 0 p)
@@ -133,12 +133,12 @@ turn n found left (suc place) h p = subst (Turn n found left) (less place) (at p
 
     at : (place : ℕ) → Found n found left (suc place) → Turn n found left place
     at place h =
-        let few = few-places n found left (suc place) h in
+        let few = few_places n found left (suc place) h in
         let below : place < 54 = omega arith in
         record {
           below = below;
           room = subst (λ (z : ℕ). found + z ≤ 2 ^ 54) (pow-suc 2 place) h.small;
-          rest = left-small n found left (suc place) h;
+          rest = left_small n found left (suc place) h;
           weight = shifted place 1 below (lit≤ tt) ∙ one-mul (2 ^ place);
           step = stepped n found left place h;
         }
@@ -148,9 +148,9 @@ pub record Turned (n found left place weight d : ℕ) : Type 0 where
   pub fits : (found + found + weight) * d ≤ left
   pub next : Found n (found + d * 2 ^ place % 2 ^ 64) ((left - (found + found + weight) * d) * 2) place
 
-pub turned : (n found left place weight d : ℕ) → Turn n found left place → weight ≡ 2 ^ place → d ≡ digitOf (found + found + weight) left → Turned n found left place weight d
+pub turned : (n found left place weight d : ℕ) → Turn n found left place → weight ≡ 2 ^ place → d ≡ digit_of (found + found + weight) left → Turned n found left place weight d
 turned n found left place weight d t w e =
-    let i : d ≡ digitOf (found + found + 2 ^ place) left = e ∙ ap (λ (z : ℕ). digitOf (found + found + z) left) w in
+    let i : d ≡ digit_of (found + found + 2 ^ place) left = e ∙ ap (λ (z : ℕ). digit_of (found + found + z) left) w in
     let s : Stepped n found left place (found + found + weight) d = subst (λ (z : ℕ). Stepped n found left place (found + found + z) d) (sym w) (subst (Stepped n found left place (found + found + 2 ^ place)) (sym i) t.step) in
     record {
       fits = s.fits;

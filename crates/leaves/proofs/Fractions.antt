@@ -35,20 +35,20 @@ ordered→le s m e t n d l = not-lt→le (fin t n d) (fin s m e) tt tt (go s t l
     go true false l = unfold lt in tt
     go true true l = unfold lt in le→nltb (m * up e * down d) (n * up d * down e) l
 
-pub ordered-scaled : (s t : Bool) (p q k : ℕ) → Ordered s p t q → Ordered s (p * k) t (q * k)
-ordered-scaled false false p q k h = mul-le-mul_right k h
-ordered-scaled false true p q k h = omega (arith, add-mul q p k, mul-le-mul_right k h, zero-mul k)
-ordered-scaled true false p q k h = tt
-ordered-scaled true true p q k h = mul-le-mul_right k h
+pub ordered_scaled : (s t : Bool) (p q k : ℕ) → Ordered s p t q → Ordered s (p * k) t (q * k)
+ordered_scaled false false p q k h = mul-le-mul_right k h
+ordered_scaled false true p q k h = omega (arith, add-mul q p k, mul-le-mul_right k h, zero-mul k)
+ordered_scaled true false p q k h = tt
+ordered_scaled true true p q k h = mul-le-mul_right k h
 
-pub none-left : (a d : ℕ) → 0 < d → a * d ≤ 0 → a ≡ 0
-none-left a d D h = elim (eq-zero-or-pos a) [ inl z ↦ z | inr l ↦ omega (arith, mul-pos l D) ]
+pub none_left : (a d : ℕ) → 0 < d → a * d ≤ 0 → a ≡ 0
+none_left a d D h = elim (eq-zero-or-pos a) [ inl z ↦ z | inr l ↦ omega (arith, mul-pos l D) ]
 
-ordered-neg : (s t : Bool) (p q : ℕ) → Ordered s p t q → Ordered (not t) q (not s) p
-ordered-neg false false p q h = h
-ordered-neg false true p q h = omega arith
-ordered-neg true false p q h = tt
-ordered-neg true true p q h = h
+ordered_neg : (s t : Bool) (p q : ℕ) → Ordered s p t q → Ordered (not t) q (not s) p
+ordered_neg false false p q h = h
+ordered_neg false true p q h = omega arith
+ordered_neg true false p q h = tt
+ordered_neg true true p q h = h
 
 -- ---- what ±a adds, and what it takes off
 
@@ -60,13 +60,13 @@ abbrev loss : Bool → ℕ → ℕ
 loss false a = 0
 loss true a = a
 
-gain-scaled : (s : Bool) (a k : ℕ) → gain s (a * k) ≡ gain s a * k
-gain-scaled false a k = refl
-gain-scaled true a k = sym (zero-mul k)
+gain_scaled : (s : Bool) (a k : ℕ) → gain s (a * k) ≡ gain s a * k
+gain_scaled false a k = refl
+gain_scaled true a k = sym (zero-mul k)
 
-loss-scaled : (s : Bool) (a k : ℕ) → loss s (a * k) ≡ loss s a * k
-loss-scaled false a k = sym (zero-mul k)
-loss-scaled true a k = refl
+loss_scaled : (s : Bool) (a k : ℕ) → loss s (a * k) ≡ loss s a * k
+loss_scaled false a k = sym (zero-mul k)
+loss_scaled true a k = refl
 
 ordered→sides : (s t : Bool) (p q : ℕ) → Ordered s p t q → gain s p + loss t q ≤ gain t q + loss s p
 ordered→sides false false p q h = omega arith
@@ -86,14 +86,14 @@ sides→ordered true true p q h = omega arith
 pub record Sums (r : Bool) (w : ℕ) (s : Bool) (a : ℕ) (t : Bool) (b : ℕ) : Type 0 where
   pub level : gain r w + (loss s a + loss t b) ≡ loss r w + (gain s a + gain t b)
 
-pub sums-scaled : {r s t : Bool} {w a b : ℕ} (k : ℕ) → Sums r w s a t b → Sums r (w * k) s (a * k) t (b * k)
-sums-scaled {r} {s} {t} {w} {a} {b} k h = record { level = over (gain r w) (loss s a) (loss t b) (gain-scaled r w k) (loss-scaled s a k) (loss-scaled t b k) ∙ ap (λ (x : ℕ). x * k) h.level ∙ sym (over (loss r w) (gain s a) (gain t b) (loss-scaled r w k) (gain-scaled s a k) (gain-scaled t b k)) }
+pub sums_scaled : {r s t : Bool} {w a b : ℕ} (k : ℕ) → Sums r w s a t b → Sums r (w * k) s (a * k) t (b * k)
+sums_scaled {r} {s} {t} {w} {a} {b} k h = record { level = over (gain r w) (loss s a) (loss t b) (gain_scaled r w k) (loss_scaled s a k) (loss_scaled t b k) ∙ ap (λ (x : ℕ). x * k) h.level ∙ sym (over (loss r w) (gain s a) (gain t b) (loss_scaled r w k) (gain_scaled s a k) (gain_scaled t b k)) }
   where
     over : (x y z : ℕ) {x' y' z' : ℕ} → x' ≡ x * k → y' ≡ y * k → z' ≡ z * k → x' + (y' + z') ≡ (x + (y + z)) * k
     over x y z p q r = omega (arith, add-mul x (y + z) k, add-mul y z k)
 
-pub sums-ordered : {r r' s t u v : Bool} {w w' a b c d : ℕ} → Sums r w s a u c → Sums r' w' t b v d → Ordered s a t b → Ordered u c v d → Ordered r w r' w'
-sums-ordered {r} {r'} {s} {t} {u} {v} {w} {w'} {a} {b} {c} {d} i j h k =
+pub sums_ordered : {r r' s t u v : Bool} {w w' a b c d : ℕ} → Sums r w s a u c → Sums r' w' t b v d → Ordered s a t b → Ordered u c v d → Ordered r w r' w'
+sums_ordered {r} {r'} {s} {t} {u} {v} {w} {w'} {a} {b} {c} {d} i j h k =
     sides→ordered r r' w w'
     (go (gain r w) (loss r w) (gain r' w') (loss r' w') (gain s a) (loss s a) (gain t b) (loss t b) (gain u c) (loss u c) (gain v d) (loss v d) i.level j.level (ordered→sides s t a b h) (ordered→sides u v c d k))
   where
@@ -102,17 +102,17 @@ sums-ordered {r} {r'} {s} {t} {u} {v} {w} {w'} {a} {b} {c} {d} i j h k =
 
 -- ---- negation turns the order round
 
-pub neg-mono : (x y : Float) → T (le x y) → T (le (neg y) (neg x))
+pub neg_mono : (x y : Float) → T (le x y) → T (le (neg y) (neg x))
 unfolding neg le
-neg-mono nan y l = absurd l
-neg-mono (inf s) nan l = absurd l
-neg-mono (inf true) (inf true) l = l
-neg-mono (inf true) (inf false) l = l
-neg-mono (inf false) (inf true) l = l
-neg-mono (inf false) (inf false) l = l
-neg-mono (inf true) (fin t n d) l = tt
-neg-mono (inf false) (fin t n d) l = absurd l
-neg-mono (fin s m e) nan l = absurd l
-neg-mono (fin s m e) (inf true) l = absurd l
-neg-mono (fin s m e) (inf false) l = tt
-neg-mono (fin s m e) (fin t n d) l = ordered→le (not t) n d (not s) m e (ordered-neg s t (m * up e * down d) (n * up d * down e) (le→ordered s m e t n d l))
+neg_mono nan y l = absurd l
+neg_mono (inf s) nan l = absurd l
+neg_mono (inf true) (inf true) l = l
+neg_mono (inf true) (inf false) l = l
+neg_mono (inf false) (inf true) l = l
+neg_mono (inf false) (inf false) l = l
+neg_mono (inf true) (fin t n d) l = tt
+neg_mono (inf false) (fin t n d) l = absurd l
+neg_mono (fin s m e) nan l = absurd l
+neg_mono (fin s m e) (inf true) l = absurd l
+neg_mono (fin s m e) (inf false) l = tt
+neg_mono (fin s m e) (fin t n d) l = ordered→le (not t) n d (not s) m e (ordered_neg s t (m * up e * down d) (n * up d * down e) (le→ordered s m e t n d l))

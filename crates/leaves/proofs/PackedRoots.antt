@@ -1,6 +1,6 @@
 -- The packed digits are the root: of a value significand * 2 ^ (2 * h) / 2 ^ g, where the root R of significand * 2 ^ j
 -- has one digit more than the format keeps, the bits h * hid + (R + 1) / 2
--- are the root's. g + j is twice the exponent of the units that `rootIn` counts in. Assumes nothing.
+-- are the root's. g + j is twice the exponent of the units that `root_in` counts in. Assumes nothing.
 use Rattle.std.proofs.Common.{◌≡◌, ℕ, zero, suc, ◌+◌, ◌-◌, ◌*◌, ◌/◌, ◌%◌, ◌^◌, ◌<◌, ◌≤◌, true, false, T, ℤ, sym, ap, ◌∙◌, subst, true≢false, le_trans, le_of_eq, lt_of_lt_of_le, lt_of_le_of_lt, lt_irrefl, mul-le-mul_right, mul_assoc, mul-pos, pow-suc, lt_of_not-le, zero-mul, mul_right_comm, not-le_of_lt, mul-div_cancel, arith, lit≤, pow_pos, pow_mono, pow-add, shl_lt}
 use lib.Count.{count_leading_zeros, leading_top}
 use lib.Ieee.{Float, nan, inf, fin, Format, prec, low, hid, ones, up, down, of_bits, fits}
@@ -8,13 +8,13 @@ use lib.Ieee.Bits.{of_bits-fits}
 use lib.Ieee.Exact.{HasValue}
 use lib.Ieee.Fits.{down_pos, round-fits}
 use lib.Ieee.Scale.{overflow}
-use Rattle.leaves.specs.Root.{wholeRoot, rounded, rootIn}
+use Rattle.leaves.specs.Root.{whole_root, rounded, root_in}
 use Rattle.leaves.specs.Engine.{RootOfFraction}
-use Rattle.leaves.proofs.Squares.{square-lt, square-odd}
-use Rattle.leaves.proofs.WholeRoots.{is-root}
-use Rattle.leaves.proofs.Values.{units-of-value, units-small, same-value}
-use Rattle.leaves.proofs.Rounding.{root-rounds}
-use Rattle.leaves.proofs.Packing.{prec-hid, packed}
+use Rattle.leaves.proofs.Squares.{square_lt, square_odd}
+use Rattle.leaves.proofs.WholeRoots.{is_root}
+use Rattle.leaves.proofs.Values.{units_of_value, units_small, same_value}
+use Rattle.leaves.proofs.Rounding.{root_rounds}
+use Rattle.leaves.proofs.Packing.{prec_hid, packed}
 
 pub rounded-fits : (f : Format) (n : ℕ) → T (fits f (rounded f n))
 unfolding rounded
@@ -24,47 +24,47 @@ rounded-fits f n = round-fits f false _ _
 none : (d : ℤ) (A g : ℕ) → 0 < A → zero * up d * 2 ^ g ≡ A * down d → ⊥
 none d A g p e = lt_irrefl 0 (subst (λ (x : ℕ). 0 < x) (sym e ∙ ap (λ (x : ℕ). x * 2 ^ g) (zero-mul (up d)) ∙ zero-mul (2 ^ g)) (mul-pos p (down_pos d)))
 
-at-least : (f : Format) (r : ℕ) → 2 ^ prec f ≤ r → hid f ≤ (r + 1) / 2
-at-least f r h = go (2 ^ prec f) (hid f) (prec-hid f) h
+at_least : (f : Format) (r : ℕ) → 2 ^ prec f ≤ r → hid f ≤ (r + 1) / 2
+at_least f r h = go (2 ^ prec f) (hid f) (prec_hid f) h
   where
     go : (a b : ℕ) → a ≡ b * 2 → a ≤ r → b ≤ (r + 1) / 2
     go a b e l = omega arith
 
-at-most : (f : Format) (r : ℕ) → r + 1 < 2 ^ suc (prec f) → (r + 1) / 2 < 2 * hid f
-at-most f r h = go (2 ^ suc (prec f)) (2 ^ prec f) (hid f) (pow-suc 2 (prec f)) (prec-hid f) h
+at_most : (f : Format) (r : ℕ) → r + 1 < 2 ^ suc (prec f) → (r + 1) / 2 < 2 * hid f
+at_most f r h = go (2 ^ suc (prec f)) (2 ^ prec f) (hid f) (pow-suc 2 (prec f)) (prec_hid f) h
   where
     go : (c a b : ℕ) → c ≡ a * 2 → a ≡ b * 2 → r + 1 < c → (r + 1) / 2 < 2 * b
     go c a b e d l = omega arith
 
 -- the root of a value A / 2 ^ g above zero
-pub root-of-value : (f : Format) (x : Float) (A g j : ℕ) → 0 < A → HasValue x false A (2 ^ g) → 2 * (low f + 1) ≡ g + j → rootIn f x ≡ rounded f (A * 2 ^ j)
-unfolding rootIn
-root-of-value f nan A g j p v e = absurd v
-root-of-value f (inf s) A g j p v e = absurd v
-root-of-value f (fin true zero d) A g j p v e = absurd (none d A g p v.1)
-root-of-value f (fin false zero d) A g j p v e = absurd (none d A g p v.1)
-root-of-value f (fin true (suc m) d) A g j p v e = absurd (true≢false v.0)
-root-of-value f (fin false (suc m) d) A g j p v e =
+pub root_of_value : (f : Format) (x : Float) (A g j : ℕ) → 0 < A → HasValue x false A (2 ^ g) → 2 * (low f + 1) ≡ g + j → root_in f x ≡ rounded f (A * 2 ^ j)
+unfolding root_in
+root_of_value f nan A g j p v e = absurd v
+root_of_value f (inf s) A g j p v e = absurd v
+root_of_value f (fin true zero d) A g j p v e = absurd (none d A g p v.1)
+root_of_value f (fin false zero d) A g j p v e = absurd (none d A g p v.1)
+root_of_value f (fin true (suc m) d) A g j p v e = absurd (true≢false v.0)
+root_of_value f (fin false (suc m) d) A g j p v e =
     ap (rounded f)
     (ap (λ (x : ℕ). suc m * up d * x / down d) (ap (λ (x : ℕ). 2 ^ x) e ∙ pow-add 2 g j)
     ∙ ap (λ (x : ℕ). x / down d) (sym (mul_assoc (suc m * up d) (2 ^ g) (2 ^ j)) ∙ ap (λ (x : ℕ). x * 2 ^ j) v.1 ∙ mul_right_comm A (down d) (2 ^ j))
     ∙ mul-div_cancel (A * 2 ^ j) (down_pos d))
 
 module _ (f : Format) (x : Float) (significand h j g : ℕ) (e : 2 * (low f + 1) ≡ g + j) where
-  pub even-root : HasValue x false (significand * 2 ^ (2 * h)) (2 ^ g)
-      → 2 ^ prec f ≤ wholeRoot (significand * 2 ^ j) → wholeRoot (significand * 2 ^ j) + 1 < 2 ^ suc (prec f)
-      → (wholeRoot (significand * 2 ^ j) % 2 ≡ 1 → wholeRoot (significand * 2 ^ j) * wholeRoot (significand * 2 ^ j) ≡ significand * 2 ^ j → ⊥)
-      → 0 < significand → suc h < ones f → of_bits f (h * hid f + (wholeRoot (significand * 2 ^ j) + 1) / 2) ≡ rootIn f x
-  even-root v lo hi tie some small =
+  pub even_root : HasValue x false (significand * 2 ^ (2 * h)) (2 ^ g)
+      → 2 ^ prec f ≤ whole_root (significand * 2 ^ j) → whole_root (significand * 2 ^ j) + 1 < 2 ^ suc (prec f)
+      → (whole_root (significand * 2 ^ j) % 2 ≡ 1 → whole_root (significand * 2 ^ j) * whole_root (significand * 2 ^ j) ≡ significand * 2 ^ j → ⊥)
+      → 0 < significand → suc h < ones f → of_bits f (h * hid f + (whole_root (significand * 2 ^ j) + 1) / 2) ≡ root_in f x
+  even_root v lo hi tie some small =
       let S = significand * 2 ^ j in
-      let r = wholeRoot S in
+      let r = whole_root S in
       let q = (r + 1) / 2 in
-      let p = packed f h q (at-least f r lo) (at-most f r hi) small in
-      let fine : q * 2 ^ h < overflow f = subst (λ (z : ℕ). z < overflow f) (units-of-value f (of_bits f (h * hid f + q)) false (q * 2 ^ h) p) (units-small f (of_bits f (h * hid f + q)) (of_bits-fits f (h * hid f + q))) in
-      let is : rootIn f x ≡ rounded f (S * (2 ^ h * 2 ^ h)) = root-of-value f x (significand * 2 ^ (2 * h)) g j (mul-pos some (pow_pos (2 * h))) v e ∙ ap (rounded f) swap in
-      same-value f (of_bits f (h * hid f + q)) (rounded f (S * (2 ^ h * 2 ^ h))) false (q * 2 ^ h) (2 ^ low f) (pow_pos (low f)) (of_bits-fits f (h * hid f + q)) (rounded-fits f (S * (2 ^ h * 2 ^ h)))
+      let p = packed f h q (at_least f r lo) (at_most f r hi) small in
+      let fine : q * 2 ^ h < overflow f = subst (λ (z : ℕ). z < overflow f) (units_of_value f (of_bits f (h * hid f + q)) false (q * 2 ^ h) p) (units_small f (of_bits f (h * hid f + q)) (of_bits-fits f (h * hid f + q))) in
+      let is : root_in f x ≡ rounded f (S * (2 ^ h * 2 ^ h)) = root_of_value f x (significand * 2 ^ (2 * h)) g j (mul-pos some (pow_pos (2 * h))) v e ∙ ap (rounded f) swap in
+      same_value f (of_bits f (h * hid f + q)) (rounded f (S * (2 ^ h * 2 ^ h))) false (q * 2 ^ h) (2 ^ low f) (pow_pos (low f)) (of_bits-fits f (h * hid f + q)) (rounded-fits f (S * (2 ^ h * 2 ^ h)))
       p
-      (root-rounds f S h lo (less r hi) tie fine)
+      (root_rounds f S h lo (less r hi) tie fine)
       ∙ sym is
     where
       twice : (h : ℕ) → 2 * h ≡ h + h
@@ -79,30 +79,30 @@ module _ (f : Format) (x : Float) (significand h j g : ℕ) (e : 2 * (low f + 1)
 -- ---- the digits of an f64's significand, with 2 ^ 54 behind it
 
 pub record FirstDigits (significand : ℕ) : Type 0 where
-  pub enough : 2 ^ 53 ≤ wholeRoot (significand * 2 ^ 54)
-  pub few : wholeRoot (significand * 2 ^ 54) + 1 < 2 ^ 54
-  pub no-tie : wholeRoot (significand * 2 ^ 54) % 2 ≡ 1 → wholeRoot (significand * 2 ^ 54) * wholeRoot (significand * 2 ^ 54) ≡ significand * 2 ^ 54 → ⊥
+  pub enough : 2 ^ 53 ≤ whole_root (significand * 2 ^ 54)
+  pub few : whole_root (significand * 2 ^ 54) + 1 < 2 ^ 54
+  pub no_tie : whole_root (significand * 2 ^ 54) % 2 ≡ 1 → whole_root (significand * 2 ^ 54) * whole_root (significand * 2 ^ 54) ≡ significand * 2 ^ 54 → ⊥
 
-pub first-digits : (significand : ℕ) → 2 ^ 52 ≤ significand → significand < 2 ^ 54 - 1 → FirstDigits significand
-first-digits s lo hi =
-    let r = is-root (s * 2 ^ 54) in
+pub first_digits : (significand : ℕ) → 2 ^ 52 ≤ significand → significand < 2 ^ 54 - 1 → FirstDigits significand
+first_digits s lo hi =
+    let r = is_root (s * 2 ^ 54) in
     let n = s * 2 ^ 54 in
     let low : 2 ^ 53 * 2 ^ 53 ≤ n = omega arith in
     let high : n < (2 ^ 54 - 1) * (2 ^ 54 - 1) = omega arith in
-    let a : 2 ^ 53 < wholeRoot n + 1 = square-lt (lt_of_le_of_lt low r.past) in
-    let b : wholeRoot n < 2 ^ 54 - 1 = square-lt (lt_of_le_of_lt r.reached high) in
-    record { enough = omega arith; few = omega arith; no-tie = λ o e. odd-square (wholeRoot n) s o e }
+    let a : 2 ^ 53 < whole_root n + 1 = square_lt (lt_of_le_of_lt low r.past) in
+    let b : whole_root n < 2 ^ 54 - 1 = square_lt (lt_of_le_of_lt r.reached high) in
+    record { enough = omega arith; few = omega arith; no_tie = λ o e. odd_square (whole_root n) s o e }
   where
-    odd-square : (r s : ℕ) → r % 2 ≡ 1 → r * r ≡ s * 2 ^ 54 → ⊥
-    odd-square r s o e =
+    odd_square : (r s : ℕ) → r % 2 ≡ 1 → r * r ≡ s * 2 ^ 54 → ⊥
+    odd_square r s o e =
         let x : r ≡ 2 * (r / 2) + 1 = omega arith in
-        let y : r * r ≡ 4 * (r / 2 * (r / 2)) + 4 * (r / 2) + 1 = ap (λ (z : ℕ). z * z) x ∙ square-odd (r / 2) in
+        let y : r * r ≡ 4 * (r / 2 * (r / 2)) + 4 * (r / 2) + 1 = ap (λ (z : ℕ). z * z) x ∙ square_odd (r / 2) in
         omega arith
 
 -- ---- the same fraction with other powers of two
 
-pub at-fraction : (r : Float) (a b places : ℕ) → a ≡ b → RootOfFraction r a places → RootOfFraction r b places
-at-fraction r a b places e h = subst (λ (z : ℕ). RootOfFraction r z places) e h
+pub at_fraction : (r : Float) (a b places : ℕ) → a ≡ b → RootOfFraction r a places → RootOfFraction r b places
+at_fraction r a b places e h = subst (λ (z : ℕ). RootOfFraction r z places) e h
 
 -- num / 2 ^ places is num * 2 ^ j / 2 ^ (places + j)
 raised : (x : Float) (a places j : ℕ) → HasValue x false a (2 ^ places) → HasValue x false (a * 2 ^ j) (2 ^ (places + j))
@@ -116,10 +116,10 @@ raised (fin s m e) a places j v = (
 pub lowered : (r : Float) (a places j : ℕ) → RootOfFraction r (a * 2 ^ j) (places + j) → RootOfFraction r a places
 lowered r a places j h = record { is = λ x v. h.is x (raised x a places j v) }
 
-pub lowered-power : (r : Float) (s k j n places : ℕ) → n ≡ k + j → RootOfFraction r (s * 2 ^ n) (places + j) → RootOfFraction r (s * 2 ^ k) places
-lowered-power r s k j n places e h =
+pub lowered_power : (r : Float) (s k j n places : ℕ) → n ≡ k + j → RootOfFraction r (s * 2 ^ n) (places + j) → RootOfFraction r (s * 2 ^ k) places
+lowered_power r s k j n places e h =
     lowered r (s * 2 ^ k) places j
-    (at-fraction r (s * 2 ^ n) (s * 2 ^ k * 2 ^ j) (places + j) (ap (λ (z : ℕ). s * z) (ap (λ (z : ℕ). 2 ^ z) e ∙ pow-add 2 k j) ∙ sym (mul_assoc s (2 ^ k) (2 ^ j))) h)
+    (at_fraction r (s * 2 ^ n) (s * 2 ^ k * 2 ^ j) (places + j) (ap (λ (z : ℕ). s * z) (ap (λ (z : ℕ). 2 ^ z) e ∙ pow-add 2 k j) ∙ sym (mul_assoc s (2 ^ k) (2 ^ j))) h)
 
 -- ---- a subnormal's highest set digit, moved to the leading place
 

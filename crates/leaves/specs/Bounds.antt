@@ -3,19 +3,19 @@
 use Rattle.std.specs.Prelude.{Bool, cond, ◌||◌, Float}
 use Rattle.std.specs.Float.Ieee.{neg, lt}
 
-unfoldable pub smallerOf : Float → Float → Float
+unfoldable pub smaller_of : Float → Float → Float
 unfolding lt
-smallerOf a b = cond (lt b a) b a
+smaller_of a b = cond (lt b a) b a
 
-unfoldable pub largerOf : Float → Float → Float
+unfoldable pub larger_of : Float → Float → Float
 unfolding lt
-largerOf a b = cond (lt a b) b a
+larger_of a b = cond (lt a b) b a
 
-unfoldable pub clampOf : Float → Float → Float → Float
+unfoldable pub clamp_of : Float → Float → Float → Float
 unfolding lt
-clampOf x low high = cond (lt x low) low (cond (lt high x) high x)
+clamp_of x low high = cond (lt x low) low (cond (lt high x) high x)
 
 -- of magnitude over the limit: "differ by over", "off by over"
-unfoldable pub exceedsOf : Float → Float → Bool
+unfoldable pub exceeds_of : Float → Float → Bool
 unfolding lt neg
-exceedsOf d limit = lt limit d || lt limit (neg d)
+exceeds_of d limit = lt limit d || lt limit (neg d)

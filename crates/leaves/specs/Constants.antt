@@ -4,8 +4,8 @@ use Rattle.std.specs.Prelude.{ℕ, ◌^◌, false, from_bits, Float}
 use Rattle.std.specs.Float.{binary64}
 use Rattle.std.specs.Float.Ieee.{round}
 
-abbrev pub plusZero : Float
-plusZero = from_bits binary64 0
+abbrev pub plus_zero : Float
+plus_zero = from_bits binary64 0
 
 abbrev pub one : Float
 one = from_bits binary64 0x3FF0000000000000
@@ -17,8 +17,8 @@ abbrev pub tau : Float
 tau = from_bits binary64 0x401921FB54442D18
 
 -- the greatest finite number
-abbrev pub greatestFinite : Float
-greatestFinite = from_bits binary64 0x7FEFFFFFFFFFFFFF
+abbrev pub greatest_finite : Float
+greatest_finite = from_bits binary64 0x7FEFFFFFFFFFFFFF
 
 -- digits / 10 ^ places, rounded once
 unfoldable pub decimal : ℕ → ℕ → Float
@@ -26,29 +26,29 @@ unfolding round
 decimal digits places = round binary64 false digits (10 ^ places)
 
 -- 0.002; refusal 7: a deviation is below it
-unfoldable pub deviationLimit : Float
+unfoldable pub deviation_limit : Float
 unfolding decimal
-deviationLimit = decimal 2 3
+deviation_limit = decimal 2 3
 
 -- 1e-12; refusal 12: a scale is above it
-unfoldable pub scaleLimit : Float
+unfoldable pub scale_limit : Float
 unfolding decimal
-scaleLimit = decimal 1 12
+scale_limit = decimal 1 12
 
 -- 1e-4; refusal 13: a join is at most it; the direction test: both ends lie nearer than it
-unfoldable pub joinLimit : Float
+unfoldable pub join_limit : Float
 unfolding decimal
-joinLimit = decimal 1 4
+join_limit = decimal 1 4
 
 -- 0.01; refusal 14: the clearance of the chosen grid point is above it
-unfoldable pub clearanceLimit : Float
+unfoldable pub clearance_limit : Float
 unfolding decimal
-clearanceLimit = decimal 1 2
+clearance_limit = decimal 1 2
 
 -- 1e-7; refusal 15: the physical clearance is above it
-unfoldable pub physicalLimit : Float
+unfoldable pub physical_limit : Float
 unfolding decimal
-physicalLimit = decimal 1 7
+physical_limit = decimal 1 7
 
 -- 1e-6; the triangle's circles and triple products, the round fallback's spread, angles and gap
 unfoldable pub micro : Float
@@ -56,9 +56,9 @@ unfolding decimal
 micro = decimal 1 6
 
 -- 1e-5; the triangle's ends
-unfoldable pub endLimit : Float
+unfoldable pub end_limit : Float
 unfolding decimal
-endLimit = decimal 1 5
+end_limit = decimal 1 5
 
 -- 1e-9; PARALLEL of sketch.rs
 unfoldable pub parallel : Float
@@ -66,6 +66,6 @@ unfolding decimal
 parallel = decimal 1 9
 
 -- 1e-18; `point_on` of faces.rs: a corner is degenerate below it
-unfoldable pub degenerateLimit : Float
+unfoldable pub degenerate_limit : Float
 unfolding decimal
-degenerateLimit = decimal 1 18
+degenerate_limit = decimal 1 18

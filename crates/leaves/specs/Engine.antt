@@ -1,12 +1,12 @@
 -- What the private functions of src/square_root.rt promise each other. The contract of `root` names none of it.
 use Rattle.std.specs.Prelude.{◌≡◌, ℕ, ◌+◌, ◌-◌, ◌*◌, ◌/◌, ◌^◌, ◌<◌, ◌≤◌, false, cond, leb, Float}
 use Rattle.std.specs.Float.Ieee.Exact.{HasValue}
-use Rattle.leaves.specs.Root.{wholeRoot, rootOf}
+use Rattle.leaves.specs.Root.{whole_root, root_of}
 use Rattle.leaves.specs.declared.square_root.RootDigits.{RootDigits}
 
 -- r is the root of num / 2 ^ places
 pub record RootOfFraction (r : Float) (num places : ℕ) : Type 0 where
-  pub is : (x : Float) → HasValue x false num (2 ^ places) → r ≡ rootOf x
+  pub is : (x : Float) → HasValue x false num (2 ^ places) → r ≡ root_of x
 
 -- ---- what the digit engine is handed, and what it gives
 -- root holds the digits found so far, in their places, and `places` digits are still to be found; rest * 2 ^ places is
@@ -22,8 +22,8 @@ pub record Started (root places rest : ℕ) : Type 0 where
   pub near : radicand root places rest < (root + 2 ^ places) * (root + 2 ^ places)
 
 -- 1 where the step can be taken off what is left, else 0
-abbrev pub digitOf : ℕ → ℕ → ℕ
-digitOf step left = cond (leb step left) 1 0
+abbrev pub digit_of : ℕ → ℕ → ℕ
+digit_of step left = cond (leb step left) 1 0
 
-abbrev pub rootDigitsOf : ℕ → RootDigits
-rootDigitsOf n = record { root = wholeRoot n; rest = n - wholeRoot n * wholeRoot n }
+abbrev pub root_digits_of : ℕ → RootDigits
+root_digits_of n = record { root = whole_root n; rest = n - whole_root n * whole_root n }

@@ -4,20 +4,20 @@
 use Rattle.std.specs.Prelude.{Float}
 use Rattle.std.specs.Float.{binary64}
 use Rattle.std.specs.Float.Ieee.{add, mul}
-use Rattle.leaves.specs.Root.{rootOf}
+use Rattle.leaves.specs.Root.{root_of}
 
-unfoldable pub keyOf : Float → Float → Float
+unfoldable pub key_of : Float → Float → Float
 unfolding add mul
-keyOf a b = add binary64 (mul binary64 a a) (mul binary64 b b)
+key_of a b = add binary64 (mul binary64 a a) (mul binary64 b b)
 
-unfoldable pub hypotOfKey : Float → Float
-unfolding rootOf
-hypotOfKey k = rootOf k
+unfoldable pub hypot_of_key : Float → Float
+unfolding root_of
+hypot_of_key k = root_of k
 
-unfoldable pub hypotOf : Float → Float → Float
-unfolding keyOf hypotOfKey
-hypotOf a b = hypotOfKey (keyOf a b)
+unfoldable pub hypot_of : Float → Float → Float
+unfolding key_of hypot_of_key
+hypot_of a b = hypot_of_key (key_of a b)
 
-unfoldable pub hypot3Of : Float → Float → Float → Float
-unfolding hypotOf
-hypot3Of a b c = hypotOf (hypotOf a b) c
+unfoldable pub hypot3_of : Float → Float → Float → Float
+unfolding hypot_of
+hypot3_of a b c = hypot_of (hypot_of a b) c

@@ -11,40 +11,40 @@ use Rattle.std.specs.Float.Ieee.Scale.{finite}
 -- ---- of roots
 
 -- a finite value's magnitude in units of the format's smallest value, and 0 for a NaN and an infinity
-abbrev pub unitsIn : Format → Float → ℕ
-unitsIn f nan = 0
-unitsIn f (inf s) = 0
-unitsIn f (fin s m e) = m * up e * 2 ^ low f / down e
+abbrev pub units_in : Format → Float → ℕ
+units_in f nan = 0
+units_in f (inf s) = 0
+units_in f (fin s m e) = m * up e * 2 ^ low f / down e
 
 -- ±a + ±b, and 0 where that is below 0
-abbrev pub signedSum : Bool → ℕ → Bool → ℕ → ℕ
-signedSum false a false b = a + b
-signedSum false a true b = a - b
-signedSum true a false b = b - a
-signedSum true a true b = 0
+abbrev pub signed_sum : Bool → ℕ → Bool → ℕ → ℕ
+signed_sum false a false b = a + b
+signed_sum false a true b = a - b
+signed_sum true a false b = b - a
+signed_sum true a true b = 0
 
 -- the sum of two finite values in units, and 0 where it is below 0
-abbrev pub sumUnits : Format → Float → Float → ℕ
-sumUnits f nan y = 0
-sumUnits f (inf s) y = 0
-sumUnits f (fin s m e) nan = 0
-sumUnits f (fin s m e) (inf t) = 0
-sumUnits f (fin s m e) (fin t n d) = signedSum s (unitsIn f (fin s m e)) t (unitsIn f (fin t n d))
+abbrev pub sum_units : Format → Float → Float → ℕ
+sum_units f nan y = 0
+sum_units f (inf s) y = 0
+sum_units f (fin s m e) nan = 0
+sum_units f (fin s m e) (inf t) = 0
+sum_units f (fin s m e) (fin t n d) = signed_sum s (units_in f (fin s m e)) t (units_in f (fin t n d))
 
 -- the square of twice the root of x, in units: 2 ^ low of them are 1
-abbrev pub fourTimes : Format → Float → ℕ
-fourTimes f x = 4 * (unitsIn f x * 2 ^ low f)
+abbrev pub four_times : Format → Float → ℕ
+four_times f x = 4 * (units_in f x * 2 ^ low f)
 
 -- y is nearer than g to the root of x: y is below g and the midpoint of the two is above the root, or y is above g and
 -- the midpoint is below the root
 abbrev pub Nearer : Format → Float → Float → Float → Type 0
-Nearer f x g y = (T (lt y g) × (fourTimes f x < sumUnits f y g * sumUnits f y g)) ⊎ (T (lt g y) × (sumUnits f y g * sumUnits f y g < fourTimes f x))
+Nearer f x g y = (T (lt y g) × (four_times f x < sum_units f y g * sum_units f y g)) ⊎ (T (lt g y) × (sum_units f y g * sum_units f y g < four_times f x))
 
 -- g is a finite value of the format, and no other is nearer to the root of x
 pub record NearestRoot (f : Format) (x g : Float) : Type 0 where
   pub held : T (fits f g)
   pub number : T (finite g)
-  pub none-nearer : (y : Float) → T (fits f y) → T (finite y) → Nearer f x g y → ⊥
+  pub none_nearer : (y : Float) → T (fits f y) → T (finite y) → Nearer f x g y → ⊥
 
 -- ---- of whole numbers
 
@@ -59,6 +59,6 @@ gap x y = (x - y) + (y - x)
 pub record NearestWhole (r : Float) (s : Bool) (a c q : ℕ) : Type 0 where
   pub value : HasValue r s q 1
   pub near : (n : ℕ) → gap (q * c) a ≤ gap (n * c) a
-  pub other-sign : (n : ℕ) → gap (q * c) a ≤ n * c + a
+  pub other_sign : (n : ℕ) → gap (q * c) a ≤ n * c + a
   pub away : (n : ℕ) → gap (n * c) a ≡ gap (q * c) a → n ≤ q
   pub only : (p : ℕ) → ((n : ℕ) → gap (p * c) a ≤ gap (n * c) a) → ((n : ℕ) → gap (n * c) a ≡ gap (p * c) a → n ≤ p) → p ≡ q

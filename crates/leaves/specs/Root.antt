@@ -12,43 +12,43 @@ use Rattle.std.specs.Float.Ieee.{low, up, down, size, round}
 -- ---- the whole part of the root of a whole number, by binary digits
 
 -- r is the root of n / 4; the root of n is 2 * r, or one more
-abbrev pub nextDigit : ℕ → ℕ → ℕ
-nextDigit n r = cond (leb ((2 * r + 1) * (2 * r + 1)) n) (2 * r + 1) (2 * r)
+abbrev pub next_digit : ℕ → ℕ → ℕ
+next_digit n r = cond (leb ((2 * r + 1) * (2 * r + 1)) n) (2 * r + 1) (2 * r)
 
 -- the root of an n below 4 ^ k
-unfoldable pub rootDigits : ℕ → ℕ → ℕ
-rootDigits zero n = 0
-rootDigits (suc k) n = nextDigit n (rootDigits k (n / 4))
+unfoldable pub root_digits : ℕ → ℕ → ℕ
+root_digits zero n = 0
+root_digits (suc k) n = next_digit n (root_digits k (n / 4))
 
-unfoldable pub wholeRoot : ℕ → ℕ
-unfolding rootDigits size
-wholeRoot n = rootDigits (size n) n
+unfoldable pub whole_root : ℕ → ℕ
+unfolding root_digits size
+whole_root n = root_digits (size n) n
 
 -- 1 where the root of n is not whole
 unfoldable pub sticky : ℕ → ℕ
-unfolding wholeRoot
-sticky n = cond (eqb (wholeRoot n * wholeRoot n) n) 0 1
+unfolding whole_root
+sticky n = cond (eqb (whole_root n * whole_root n) n) 0 1
 
 -- ---- the root of a value
 
 -- a value above 0 in units of (2 ^ (low + 1)) ^ 2 to 1: a whole number for every value of the format
-abbrev pub squareUnits : Format → ℕ → ℕ → ℕ
-squareUnits f num den = num * 2 ^ (2 * (low f + 1)) / den
+abbrev pub square_units : Format → ℕ → ℕ → ℕ
+square_units f num den = num * 2 ^ (2 * (low f + 1)) / den
 
 -- the root of n such units, rounded
 unfoldable pub rounded : Format → ℕ → Float
-unfolding wholeRoot sticky round
-rounded f n = round f false (2 * wholeRoot n + sticky n) (2 ^ (low f + 2))
+unfolding whole_root sticky round
+rounded f n = round f false (2 * whole_root n + sticky n) (2 ^ (low f + 2))
 
-unfoldable pub rootIn : Format → Float → Float
+unfoldable pub root_in : Format → Float → Float
 unfolding rounded
-rootIn f nan = nan
-rootIn f (inf true) = nan
-rootIn f (inf false) = inf false
-rootIn f (fin s zero e) = fin s zero e
-rootIn f (fin true (suc m) e) = nan
-rootIn f (fin false (suc m) e) = rounded f (squareUnits f (suc m * up e) (down e))
+root_in f nan = nan
+root_in f (inf true) = nan
+root_in f (inf false) = inf false
+root_in f (fin s zero e) = fin s zero e
+root_in f (fin true (suc m) e) = nan
+root_in f (fin false (suc m) e) = rounded f (square_units f (suc m * up e) (down e))
 
-unfoldable pub rootOf : Float → Float
-unfolding rootIn
-rootOf = rootIn binary64
+unfoldable pub root_of : Float → Float
+unfolding root_in
+root_of = root_in binary64

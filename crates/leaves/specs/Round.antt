@@ -6,17 +6,17 @@ use Rattle.std.specs.Float.{nan, inf, fin, Format, binary64}
 use Rattle.std.specs.Float.Ieee.{up, down, round}
 
 -- num / den and a half, without its fraction
-abbrev pub nearestWhole : ℕ → ℕ → ℕ
-nearestWhole num den = (2 * num + den) / (2 * den)
+abbrev pub nearest_whole : ℕ → ℕ → ℕ
+nearest_whole num den = (2 * num + den) / (2 * den)
 
 -- the magnitude is rounded, and the sign kept: every such whole number is a value of the format, so `round` changes
 -- nothing
-unfoldable pub roundIn : Format → Float → Float
+unfoldable pub round_in : Format → Float → Float
 unfolding round
-roundIn f nan = nan
-roundIn f (inf s) = inf s
-roundIn f (fin s m e) = round f s (nearestWhole (m * up e) (down e)) 1
+round_in f nan = nan
+round_in f (inf s) = inf s
+round_in f (fin s m e) = round f s (nearest_whole (m * up e) (down e)) 1
 
-unfoldable pub roundOf : Float → Float
-unfolding roundIn
-roundOf = roundIn binary64
+unfoldable pub round_of : Float → Float
+unfolding round_in
+round_of = round_in binary64

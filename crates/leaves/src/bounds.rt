@@ -1,24 +1,24 @@
 // Smaller-of, larger-of and clamp, as document 01 words them, and a magnitude over a limit.
 ghost use Rattle.std.specs.Prelude.{◌≡◌};
-ghost use Rattle.leaves.specs.Bounds.{smallerOf, largerOf, clampOf, exceedsOf};
+ghost use Rattle.leaves.specs.Bounds.{smaller_of, larger_of, clamp_of, exceeds_of};
 
 // The first, unless the second is less: so the first at equality, and beside a NaN.
 pub fn smaller_of(a: f64, b: f64) -> f64
-    ensures { result ≡ smallerOf a b }
+    ensures { result ≡ smaller_of a b }
 {
     if b < a { b } else { a }
 }
 
 // The first, unless the second is greater.
 pub fn larger_of(a: f64, b: f64) -> f64
-    ensures { result ≡ largerOf a b }
+    ensures { result ≡ larger_of a b }
 {
     if a < b { b } else { a }
 }
 
 // Below the low end the low end, above the high end the high end, else the number.
 pub fn clamp(x: f64, low: f64, high: f64) -> f64
-    ensures { result ≡ clampOf x low high }
+    ensures { result ≡ clamp_of x low high }
 {
     if x < low {
         low
@@ -31,7 +31,7 @@ pub fn clamp(x: f64, low: f64, high: f64) -> f64
 
 // Whether d is over the limit in magnitude.
 pub fn exceeds(d: f64, limit: f64) -> bool
-    ensures { result ≡ exceedsOf d limit }
+    ensures { result ≡ exceeds_of d limit }
 {
     if limit < d { true } else { limit < -d }
 }

@@ -4,7 +4,7 @@
 ghost use Rattle.std.specs.Prelude.{◌≡◌, ◌*◌, ◌%◌, ◌^◌, T, not};
 ghost use Rattle.std.specs.Float.{binary64};
 ghost use Rattle.std.specs.Float.Ieee.{lt, le, rem};
-ghost use Rattle.leaves.specs.Constants.{plusZero, tau};
+ghost use Rattle.leaves.specs.Constants.{plus_zero, tau};
 
 use crate::constants::TAU;
 use crate::square_root::HIDDEN;
@@ -39,7 +39,7 @@ fn rest_from_tau(x: f64) -> f64
 
 // The remainder of an x that is not negative; of a NaN a NaN.
 fn rest_of_magnitude(x: f64) -> f64
-    requires { T (not (lt x plusZero)) }
+    requires { T (not (lt x plus_zero)) }
     ensures { result ≡ rem binary64 x tau }
 {
     if TAU <= x { rest_from_tau(x) } else { x }

@@ -9,9 +9,9 @@
 // (R + 1) / 2 stays below 2^53, so packing is one addition.
 ghost use Rattle.std.specs.Prelude.{◌≡◌, ◌-◌, ◌*◌, ◌^◌, ◌<◌, ◌≤◌, T};
 ghost use Rattle.std.specs.Float.Ieee.{lt};
-ghost use Rattle.leaves.specs.Constants.{plusZero};
-ghost use Rattle.leaves.specs.Engine.{RootOfFraction, rootDigitsOf, radicand, digitOf, Started};
-ghost use Rattle.leaves.specs.Root.{rootOf};
+ghost use Rattle.leaves.specs.Constants.{plus_zero};
+ghost use Rattle.leaves.specs.Engine.{RootOfFraction, root_digits_of, radicand, digit_of, Started};
+ghost use Rattle.leaves.specs.Root.{root_of};
 
 pub(crate) const HIDDEN: u64 = 0x10_0000_0000_0000; // 2^52, the weight of a normal number's leading digit
 
@@ -24,7 +24,7 @@ pub(crate) struct RootDigits {
 
 // The square root: nearest, ties to even; -0 gives -0, infinity itself; negative or NaN gives a NaN.
 pub fn root(x: f64) -> f64
-    ensures { result ≡ rootOf x }
+    ensures { result ≡ root_of x }
 {
     if x > 0.0 {
         root_above_zero(x)
@@ -37,8 +37,8 @@ pub fn root(x: f64) -> f64
 
 // The root of an x above 0.
 fn root_above_zero(x: f64) -> f64
-    requires { T (lt plusZero x) }
-    ensures { result ≡ rootOf x }
+    requires { T (lt plus_zero x) }
+    ensures { result ≡ root_of x }
 {
     let bits = f64::to_bits(x);
     let field = bits / HIDDEN;
@@ -94,7 +94,7 @@ fn root_of_even(significand: u64, half: u64) -> f64
 // shifted, not a branch: half of all digits would be guessed wrong.
 fn digits(root: u64, places: u64, rest: u64) -> RootDigits
     requires { Started root places rest }
-    ensures { result ≡ rootDigitsOf (radicand root places rest) }
+    ensures { result ≡ root_digits_of (radicand root places rest) }
 {
     let mut found = root;
     let mut left = rest;
@@ -114,7 +114,7 @@ fn digits(root: u64, places: u64, rest: u64) -> RootDigits
 
 // 1 where the step can be taken off what is left, else 0.
 fn next_digit(step: u64, left: u64) -> u64
-    ensures { result ≡ digitOf step left }
+    ensures { result ≡ digit_of step left }
 {
     if step <= left { 1 } else { 0 }
 }

@@ -1,13 +1,13 @@
 // The remainder by TAU, and the wrap of rule 1.
 ghost use Rattle.std.specs.Prelude.{◌≡◌};
-ghost use Rattle.leaves.specs.Wrap.{remTau, wrapOf};
+ghost use Rattle.leaves.specs.Wrap.{rem_tau, wrap_of};
 
 use crate::constants::{PI, TAU};
 use crate::remainder::rest;
 
 // x rem TAU, where rem is %, plus TAU if negative: Rust's `rem_euclid` by TAU.
 pub fn rem_tau(x: f64) -> f64
-    ensures { result ≡ remTau x }
+    ensures { result ≡ rem_tau x }
 {
     let rest = rest(x);
     if rest < 0.0 { rest + TAU } else { rest }
@@ -15,7 +15,7 @@ pub fn rem_tau(x: f64) -> f64
 
 // ((v + PI + PI) rem TAU) - PI, where rem is %, plus TAU if negative.
 pub fn wrap(v: f64) -> f64
-    ensures { result ≡ wrapOf v }
+    ensures { result ≡ wrap_of v }
 {
     rem_tau(v + PI + PI) - PI
 }

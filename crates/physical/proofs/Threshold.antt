@@ -7,28 +7,28 @@ use lib.Dec.{T}
 use lib.Ieee.{Float, inf, binary64, mul, lt, fits}
 use lib.Ieee.Bits.{of_bits-fits}
 use lib.Ieee.Fits.{mul-fits}
-use Rattle.leaves.specs.Constants.{physicalLimit}
-use Rattle.leaves.proofs.Choices.{larger-keeps}
-use Rattle.leaves.proofs.ConstantBits.{physicalLimit-bits}
+use Rattle.leaves.specs.Constants.{physical_limit}
+use Rattle.leaves.proofs.Choices.{larger_keeps}
+use Rattle.leaves.proofs.ConstantBits.{physical_limit_bits}
 use Rattle.space.specs.declared.vectors.Place.{Place}
 use Rattle.sheet.specs.Content.{Coedge, Sheet}
-use Rattle.physical.specs.Physical.{greatestDeviation, eight, physicalLeast, tooClose}
-use Rattle.physical.proofs.Nearness.{ringsNear, ring-stays, clearance-within}
+use Rattle.physical.specs.Physical.{greatest_deviation, eight, physical_least, too_close}
+use Rattle.physical.proofs.Nearness.{rings_near, ring_stays, clearance_within}
 
-least-held : (rings : List (List Coedge)) → T (fits binary64 (physicalLeast rings))
-unfolding physicalLeast
-least-held rings =
-    larger-keeps (λ (x : Float). T (fits binary64 x)) (mul binary64 (greatestDeviation rings) eight) physicalLimit (mul-fits binary64 (greatestDeviation rings) eight)
-    (subst (λ (x : Float). T (fits binary64 x)) (sym physicalLimit-bits) (of_bits-fits binary64 _))
+least_held : (rings : List (List Coedge)) → T (fits binary64 (physical_least rings))
+unfolding physical_least
+least_held rings =
+    larger_keeps (λ (x : Float). T (fits binary64 x)) (mul binary64 (greatest_deviation rings) eight) physical_limit (mul-fits binary64 (greatest_deviation rings) eight)
+    (subst (λ (x : Float). T (fits binary64 x)) (sym physical_limit_bits) (of_bits-fits binary64 _))
 
-module _ (s : Sheet) (p : Place) (rings : List (List Place)) {limit : Float} (least : limit ≡ physicalLeast s.rings) where
-  by-near : (below : Bool) → lt limit (inf false) ≡ below → tooClose s p rings ≡ ringsNear limit p (not below) rings
-  unfolding tooClose
-  by-near below e =
-      rw (sym least) (clearance-within limit (subst (λ (x : Float). T (fits binary64 x)) (sym least) (least-held s.rings)) p rings ∙ ap (λ (b : Bool). ringsNear limit p (not b) rings) e)
+module _ (s : Sheet) (p : Place) (rings : List (List Place)) {limit : Float} (least : limit ≡ physical_least s.rings) where
+  by_near : (below : Bool) → lt limit (inf false) ≡ below → too_close s p rings ≡ rings_near limit p (not below) rings
+  unfolding too_close
+  by_near below e =
+      rw (sym least) (clearance_within limit (subst (λ (x : Float). T (fits binary64 x)) (sym least) (least_held s.rings)) p rings ∙ ap (λ (b : Bool). rings_near limit p (not b) rings) e)
 
-  pub close-within : {near : Bool} → lt limit (inf false) ≡ true → near ≡ ringsNear limit p false rings → near ≡ tooClose s p rings
-  close-within e n = n ∙ sym (by-near true e)
+  pub close_within : {near : Bool} → lt limit (inf false) ≡ true → near ≡ rings_near limit p false rings → near ≡ too_close s p rings
+  close_within e n = n ∙ sym (by_near true e)
 
-  pub close-always : lt limit (inf false) ≡ false → true ≡ tooClose s p rings
-  close-always e = sym (by-near false e ∙ ring-stays limit p rings)
+  pub close_always : lt limit (inf false) ≡ false → true ≡ too_close s p rings
+  close_always e = sym (by_near false e ∙ ring_stays limit p rings)

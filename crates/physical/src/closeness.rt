@@ -1,10 +1,10 @@
 // 15: the physical clearance, held against the greatest deviation, by the images that the host gives.
 ghost use Rattle.std.specs.Prelude.{◌≡◌, false};
 ghost use mathlib.Core.List.{foldl};
-ghost use Rattle.sheet.specs.Layout.{sheetOf};
-ghost use Rattle.physical.specs.Images.{ringImages};
-ghost use Rattle.physical.specs.Physical.{tooClose};
-ghost use Rattle.physical.specs.Stages.{Far, anyNear};
+ghost use Rattle.sheet.specs.Layout.{sheet_of};
+ghost use Rattle.physical.specs.Images.{ring_images};
+ghost use Rattle.physical.specs.Physical.{too_close};
+ghost use Rattle.physical.specs.Stages.{Far, any_near};
 
 use crate::deviation::least_clearance;
 use crate::near_segments::{any_near, far_key, is_passable};
@@ -15,7 +15,7 @@ use space::Place;
 // the list's end are none.
 fn any_ring_near(s: &[u8], limit: f64, far: f64, p: Place, images: &[f64]) -> bool
     requires { Far limit far }
-    ensures { result ≡ foldl (anyNear limit p) false (ringImages (sheetOf s.now).rings images.now) }
+    ensures { result ≡ foldl (any_near limit p) false (ring_images (sheet_of s.now).rings images.now) }
 {
     let size = images.len();
     let mut at = sheet::head_size(sheet::byte_at(s, 5));
@@ -39,7 +39,7 @@ fn any_ring_near(s: &[u8], limit: f64, far: f64, p: Place, images: &[f64]) -> bo
 // 15: whether the physical clearance of p is not above larger-of(8 x greatest deviation, 1e-7), by the images of
 // the rings' points in `images`.
 pub fn too_close(s: &[u8], p: Place, images: &[f64]) -> bool
-    ensures { result ≡ tooClose (sheetOf s.now) p (ringImages (sheetOf s.now).rings images.now) }
+    ensures { result ≡ too_close (sheet_of s.now) p (ring_images (sheet_of s.now).rings images.now) }
 {
     let limit = least_clearance(s);
     if is_passable(limit) {

@@ -1,7 +1,7 @@
 // The greatest deviation, and what 15 asks of the physical clearance by it.
 ghost use Rattle.std.specs.Prelude.{◌≡◌};
-ghost use Rattle.sheet.specs.Layout.{ring, sheetOf};
-ghost use Rattle.physical.specs.Physical.{deviates, greatestDeviation, physicalLeast};
+ghost use Rattle.sheet.specs.Layout.{ring, sheet_of};
+ghost use Rattle.physical.specs.Physical.{deviates, greatest_deviation, physical_least};
 
 use crate::parts::held;
 use leaves::constants::PHYSICAL_LIMIT;
@@ -25,7 +25,7 @@ fn larger_deviation(most: f64, block: &[u8]) -> f64
 
 // The greatest deviation of all rings. A block that overruns the sheet's end is cut short there.
 fn greatest_deviation(s: &[u8]) -> f64
-    ensures { result ≡ greatestDeviation (sheetOf s.now).rings }
+    ensures { result ≡ greatest_deviation (sheet_of s.now).rings }
 {
     let size = s.len();
     let mut at = sheet::head_size(sheet::byte_at(s, 5));
@@ -45,7 +45,7 @@ fn greatest_deviation(s: &[u8]) -> f64
 
 // The larger of 8 x greatest deviation and 1e-7: a physical clearance has to be above it.
 pub(crate) fn least_clearance(s: &[u8]) -> f64
-    ensures { result ≡ physicalLeast (sheetOf s.now).rings }
+    ensures { result ≡ physical_least (sheet_of s.now).rings }
 {
     leaves::larger_of(greatest_deviation(s) * 8.0, PHYSICAL_LIMIT)
 }

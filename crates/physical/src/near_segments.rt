@@ -5,8 +5,8 @@ ghost use Rattle.std.specs.Float.{inf};
 ghost use Rattle.std.specs.Float.Ieee.{lt};
 ghost use Rattle.space.specs.Places.{triples};
 ghost use Rattle.points.specs.Segments.{between};
-ghost use Rattle.physical.specs.Space.{left as left_of, residual as residualOf};
-ghost use Rattle.physical.specs.Stages.{Far, isNear, anyNear};
+ghost use Rattle.physical.specs.Space.{left as left_of, residual as residual_of};
+ghost use Rattle.physical.specs.Stages.{Far, is_near, any_near};
 
 use space::{Place, dot, minus, place_at};
 
@@ -19,7 +19,7 @@ fn left(from: f64, t: f64, d: f64) -> f64
 
 // p - a - t x d: from the segment's nearest point to p.
 fn residual(p: Place, a: Place, b: Place) -> Place
-    ensures { result ≡ residualOf p (between a b) }
+    ensures { result ≡ residual_of p (between a b) }
 {
     let d = minus(b, a);
     let from = minus(p, a);
@@ -62,7 +62,7 @@ pub(crate) fn far_key(limit: f64) -> f64
 // reaches `far` it is above.
 pub(crate) fn is_near(limit: f64, far: f64, p: Place, a: Place, b: Place) -> bool
     requires { Far limit far }
-    ensures { result ≡ isNear limit p (between a b) }
+    ensures { result ≡ is_near limit p (between a b) }
 {
     let rest = residual(p, a, b);
     let key = leaves::key(rest.x, rest.y);
@@ -75,7 +75,7 @@ pub(crate) fn is_near(limit: f64, far: f64, p: Place, a: Place, b: Place) -> boo
 // Whether the distance from p to one of the segments of a ring's images is not above the limit.
 pub(crate) fn any_near(limit: f64, far: f64, p: Place, ring: &[f64]) -> bool
     requires { Far limit far }
-    ensures { result ≡ anyNear limit p false (triples ring.now) }
+    ensures { result ≡ any_near limit p false (triples ring.now) }
 {
     let count = ring.len() / 3;
     if count == 0 {

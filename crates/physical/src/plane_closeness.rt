@@ -3,11 +3,11 @@ ghost use Rattle.std.specs.Prelude.{◌≡◌, false, ◌+◌, ◌*◌, ◌<◌,
 ghost use mathlib.Core.List.{foldl, map};
 ghost use Rattle.std.specs.Float.{nan};
 ghost use Rattle.sheet.specs.Content.{point, pairs};
-ghost use Rattle.sheet.specs.Layout.{numbers, sheetOf};
-ghost use Rattle.frame.specs.Parts.{ringsFrom};
-ghost use Rattle.physical.specs.Physical.{tooClose};
-ghost use Rattle.physical.specs.Plane.{planeImagesOf};
-ghost use Rattle.physical.specs.Stages.{Far, anyNear, imageOf};
+ghost use Rattle.sheet.specs.Layout.{numbers, sheet_of};
+ghost use Rattle.frame.specs.Parts.{rings_from};
+ghost use Rattle.physical.specs.Physical.{too_close};
+ghost use Rattle.physical.specs.Plane.{plane_images_of};
+ghost use Rattle.physical.specs.Stages.{Far, any_near, image_of};
 
 use crate::deviation::least_clearance;
 use crate::near_segments::{far_key, is_near, is_passable};
@@ -18,7 +18,7 @@ use space::Place;
 // The image of the k-th point of a ring: that of the point which is written for it at phase 0.
 fn image_at(axes: Axes, ring: &[f64], k: usize) -> Place
     requires { 2 * k + 1 < length ring.now }
-    ensures { result ≡ imageOf axes (point (get_or ring.now (2 * k) nan) (get_or ring.now (2 * k + 1) nan)) }
+    ensures { result ≡ image_of axes (point (get_or ring.now (2 * k) nan) (get_or ring.now (2 * k + 1) nan)) }
 {
     on_axes(axes, ring[2 * k], ring[2 * k + 1] - points::phase_angle(0))
 }
@@ -26,7 +26,7 @@ fn image_at(axes: Axes, ring: &[f64], k: usize) -> Place
 // Whether the distance from p to one of the segments between the images of a ring's points is not above the limit.
 fn any_image_near(limit: f64, far: f64, p: Place, axes: Axes, ring: &[f64]) -> bool
     requires { Far limit far }
-    ensures { result ≡ anyNear limit p false (map (imageOf axes) (pairs ring.now)) }
+    ensures { result ≡ any_near limit p false (map (image_of axes) (pairs ring.now)) }
 {
     let count = ring.len() / 2;
     if count == 0 {
@@ -57,7 +57,7 @@ fn any_plane_ring_near(
     ends: &[usize],
 ) -> bool
     requires { Far limit far }
-    ensures { result ≡ foldl (anyNear limit p) false (map (map (imageOf axes)) (ringsFrom 0 ends.now points.now)) }
+    ensures { result ≡ foldl (any_near limit p) false (map (map (image_of axes)) (rings_from 0 ends.now points.now)) }
 {
     let size = points.len();
     let mut from = 0usize;
@@ -78,7 +78,7 @@ fn any_plane_ring_near(
 // 15: whether the physical clearance of p is not above larger-of(8 x greatest deviation, 1e-7), by the images on
 // the sheet's plane of the rings that stand in `points` and end at `ends`.
 pub fn is_plane_close(s: &[u8], p: Place, points: &[f64], ends: &[usize]) -> bool
-    ensures { result ≡ tooClose (sheetOf s.now) p (planeImagesOf (numbers 9 (drop 8 s.now)) (ringsFrom 0 ends.now points.now)) }
+    ensures { result ≡ too_close (sheet_of s.now) p (plane_images_of (numbers 9 (drop 8 s.now)) (rings_from 0 ends.now points.now)) }
 {
     let limit = least_clearance(s);
     if is_passable(limit) {

@@ -1,10 +1,10 @@
 // The plane stand-in: (origin + u x u axis) + v x (normal cross u axis).
 ghost use Rattle.std.specs.Prelude.{◌≡◌, ◌≤◌, drop};
-ghost use Rattle.space.specs.Places.{placeAt};
+ghost use Rattle.space.specs.Places.{place_at};
 ghost use Rattle.sheet.specs.Content.{point};
 ghost use Rattle.sheet.specs.Layout.{numbers};
-ghost use Rattle.physical.specs.Plane.{reached, onPlane};
-ghost use Rattle.physical.specs.Stages.{axesOf, onAxesOf};
+ghost use Rattle.physical.specs.Plane.{reached, on_plane};
+ghost use Rattle.physical.specs.Stages.{axes_of, on_axes_of};
 
 use space::{Place, cross};
 
@@ -19,7 +19,7 @@ pub(crate) struct Axes {
 // The three numbers of the sheet that begin at `at`.
 fn numbers_at(s: &[u8], at: usize) -> Place
     requires { at ≤ 100000 }
-    ensures { result ≡ placeAt (numbers 3 (drop at s.now)) 0 }
+    ensures { result ≡ place_at (numbers 3 (drop at s.now)) 0 }
 {
     Place {
         x: sheet::number(s, at),
@@ -30,7 +30,7 @@ fn numbers_at(s: &[u8], at: usize) -> Place
 
 // The axes of the plane whose nine numbers stand behind the head.
 pub(crate) fn axes_of(s: &[u8]) -> Axes
-    ensures { result ≡ axesOf (numbers 9 (drop 8 s.now)) }
+    ensures { result ≡ axes_of (numbers 9 (drop 8 s.now)) }
 {
     let u_axis = numbers_at(s, 32);
     Axes {
@@ -49,7 +49,7 @@ fn reach(origin: f64, u: f64, u_axis: f64, v: f64, v_axis: f64) -> f64
 
 // The place of (u, v).
 pub(crate) fn on_axes(axes: Axes, u: f64, v: f64) -> Place
-    ensures { result ≡ onAxesOf axes (point u v) }
+    ensures { result ≡ on_axes_of axes (point u v) }
 {
     Place {
         x: reach(axes.origin.x, u, axes.u_axis.x, v, axes.v_axis.x),
@@ -60,7 +60,7 @@ pub(crate) fn on_axes(axes: Axes, u: f64, v: f64) -> Place
 
 // The place of (u, v) on the plane whose nine numbers stand behind the head of the sheet, whatever its kind.
 pub fn place_on(s: &[u8], u: f64, v: f64) -> Place
-    ensures { result ≡ onPlane (numbers 9 (drop 8 s.now)) (point u v) }
+    ensures { result ≡ on_plane (numbers 9 (drop 8 s.now)) (point u v) }
 {
     on_axes(axes_of(s), u, v)
 }

@@ -16,55 +16,55 @@ use Prim.Native.Nat.{ℕ}
 use native.Mathlib.Omega.{arith}
 use lib.Ieee.{Float}
 use Rattle.space.specs.declared.vectors.Place.{Place}
-use Rattle.sheet.specs.Layout.{sheetOf}
+use Rattle.sheet.specs.Layout.{sheet_of}
 use Rattle.answers.specs.Outcome.{Check, check, first, refused}
-use Rattle.chart.specs.Chart.{chosen, noneClear}
-use Rattle.chart.specs.Demand.{Clearest, NoneServes, Passes, Rule, candidateAt, clearAt, coverAt, downTo}
+use Rattle.chart.specs.Chart.{chosen, none_clear}
+use Rattle.chart.specs.Demand.{Clearest, NoneServes, Passes, Rule, candidate_at, clear_at, cover_at, down_to}
 use Rattle.search.specs.declared.candidate.Candidate.{Candidate}
-use Rattle.chart.proofs.GridRule.{Call, grid-rule}
-use Rattle.answers.proofs.Settled.{settled-last}
-use Rattle.chart.proofs.Outcomes.{first-above}
-use Rattle.picker.specs.Images.{lastImage}
-use Rattle.picker.specs.ImagePick.{imageChecks, imageClose, imagePickOf}
-use Rattle.picker.specs.Answered.{answeredAt}
-use Rattle.picker.specs.PlanePick.{planeChecks, planePickOf}
-use Rattle.picker.specs.Demand.{imageAnswer, planeAnswer}
-use Rattle.picker.proofs.Picks.{Own, pick-passes, closeAt, image-checks-are, image-is, image-own, image-parted, imageRows, pick-numbered, pick-parted, pickChecks, pickOf, plane-checks-are, plane-is, plane-own, plane-parted, planeAt, planeRows}
-use Rattle.picker.proofs.Refusals.{image-pick-status, plane-pick-status}
+use Rattle.chart.proofs.GridRule.{Call, grid_rule}
+use Rattle.answers.proofs.Settled.{settled_last}
+use Rattle.chart.proofs.Outcomes.{first_above}
+use Rattle.picker.specs.Images.{last_image}
+use Rattle.picker.specs.ImagePick.{image_checks, image_close, image_pick_of}
+use Rattle.picker.specs.Answered.{answered_at}
+use Rattle.picker.specs.PlanePick.{plane_checks, plane_pick_of}
+use Rattle.picker.specs.Demand.{image_answer, plane_answer}
+use Rattle.picker.proofs.Picks.{Own, pick_passes, close_at, image_checks_are, image_is, image_own, image_parted, image_rows, pick_numbered, pick_parted, pick_checks, pick_of, plane_checks_are, plane_is, plane_own, plane_parted, plane_at, plane_rows}
+use Rattle.picker.proofs.Refusals.{image_pick_status, plane_pick_status}
 
 -- ---- a pick whose point, and whether it is too close, are of the chosen grid point
 
 module _ (s : List ℕ) (own : List Check) (phase : ℕ) (o : Own own) (at : Candidate → Place) (close : Candidate → Bool) where
   abbrev best : Candidate
-  best = chosen (sheetOf s) phase
+  best = chosen (sheet_of s) phase
 
   abbrev checks : List Check
-  checks = pickChecks s own phase (close best)
+  checks = pick_checks s own phase (close best)
 
-  pick-call : Call (sheetOf s) phase checks (λ (c : Candidate). check 15 (close c) ∷ []) (λ (c : Candidate). answeredAt (at c) c)
-  unfolding answeredAt
-  pick-call = record {
-    numbered = pick-numbered s own phase (close best) o;
-    parts = pick-parted s own phase (close best) o;
+  pick_call : Call (sheet_of s) phase checks (λ (c : Candidate). check 15 (close c) ∷ []) (λ (c : Candidate). answered_at (at c) c)
+  unfolding answered_at
+  pick_call = record {
+    numbered = pick_numbered s own phase (close best) o;
+    parts = pick_parted s own phase (close best) o;
     later = λ c. (refl, tt);
     answers = λ c. refl;
   }
 
-  pick-grid-rule : Passes 13 (pickChecks s own phase (close (chosen (sheetOf s) phase)))
-      → (((pickOf s own phase (at (chosen (sheetOf s) phase)) (close (chosen (sheetOf s) phase))).status ≡ 14) ↔ NoneServes (coverAt (sheetOf s) phase) (clearAt (sheetOf s) phase))
-      × ((NoneServes (coverAt (sheetOf s) phase) (clearAt (sheetOf s) phase) → ⊥)
-      → (i : ℕ) × (j : ℕ) × Clearest (coverAt (sheetOf s) phase) (clearAt (sheetOf s) phase) i j
-      × (pickOf s own phase (at (chosen (sheetOf s) phase)) (close (chosen (sheetOf s) phase))
-      ≡ cond (close (candidateAt (coverAt (sheetOf s) phase) (clearAt (sheetOf s) phase) i j)) (refused 15)
-      (answeredAt (at (candidateAt (coverAt (sheetOf s) phase) (clearAt (sheetOf s) phase) i j)) (candidateAt (coverAt (sheetOf s) phase) (clearAt (sheetOf s) phase) i j))))
-  unfolding pickOf
-  pick-grid-rule passes =
-      let (refuses, chooses) = grid-rule (sheetOf s) phase checks (λ (c : Candidate). check 15 (close c) ∷ []) (λ (c : Candidate). answeredAt (at c) c) pick-call passes in (
+  pick_grid_rule : Passes 13 (pick_checks s own phase (close (chosen (sheet_of s) phase)))
+      → (((pick_of s own phase (at (chosen (sheet_of s) phase)) (close (chosen (sheet_of s) phase))).status ≡ 14) ↔ NoneServes (cover_at (sheet_of s) phase) (clear_at (sheet_of s) phase))
+      × ((NoneServes (cover_at (sheet_of s) phase) (clear_at (sheet_of s) phase) → ⊥)
+      → (i : ℕ) × (j : ℕ) × Clearest (cover_at (sheet_of s) phase) (clear_at (sheet_of s) phase) i j
+      × (pick_of s own phase (at (chosen (sheet_of s) phase)) (close (chosen (sheet_of s) phase))
+      ≡ cond (close (candidate_at (cover_at (sheet_of s) phase) (clear_at (sheet_of s) phase) i j)) (refused 15)
+      (answered_at (at (candidate_at (cover_at (sheet_of s) phase) (clear_at (sheet_of s) phase) i j)) (candidate_at (cover_at (sheet_of s) phase) (clear_at (sheet_of s) phase) i j))))
+  unfolding pick_of
+  pick_grid_rule passes =
+      let (refuses, chooses) = grid_rule (sheet_of s) phase checks (λ (c : Candidate). check 15 (close c) ∷ []) (λ (c : Candidate). answered_at (at c) c) pick_call passes in (
         refuses,
         λ some.
             let (i, j, c, w) = chooses some in
-            let z = candidateAt (coverAt (sheetOf s) phase) (clearAt (sheetOf s) phase) i j in
-            (i, j, c, w ∙ settled-last 15 (omega arith) (close z) (answeredAt (at z) z)),
+            let z = candidate_at (cover_at (sheet_of s) phase) (clear_at (sheet_of s) phase) i j in
+            (i, j, c, w ∙ settled_last 15 (omega arith) (close z) (answered_at (at z) z)),
       )
 
 -- ---- image pick
@@ -73,22 +73,22 @@ module _ (s : List ℕ) (phase : ℕ) (images : List Float) where
   -- refusal 14 exactly where no grid point serves; otherwise 15 where the last image is too close, else status 0, with
   -- the last image, and the clearest covered grid point's clearance and the number of covered
   -- grid points
-  pub image-grid-rule : Passes 13 (imageChecks s phase images) → Rule (sheetOf s) phase (imagePickOf s phase images) (imageAnswer (sheetOf s) images)
-  image-grid-rule =
-      rw (image-checks-are s phase images, image-is s phase images)
-      (pick-grid-rule s (imageRows (sheetOf s) phase images) phase (image-own s phase images) (λ (c : Candidate). lastImage (sheetOf s) images) (λ (c : Candidate). imageClose (sheetOf s) images))
+  pub image_grid_rule : Passes 13 (image_checks s phase images) → Rule (sheet_of s) phase (image_pick_of s phase images) (image_answer (sheet_of s) images)
+  image_grid_rule =
+      rw (image_checks_are s phase images, image_is s phase images)
+      (pick_grid_rule s (image_rows (sheet_of s) phase images) phase (image_own s phase images) (λ (c : Candidate). last_image (sheet_of s) images) (λ (c : Candidate). image_close (sheet_of s) images))
 
   -- where one of the rows down to 13 fails, the first that does is the status
-  pub image-refused-above : (Passes 13 (imageChecks s phase images) → ⊥) → (imagePickOf s phase images).status ≡ first (downTo 13 (imageChecks s phase images))
-  image-refused-above n =
-      image-pick-status s phase images
-      ∙ first-above 13 (imageChecks s phase images) (check 14 (noneClear (chosen (sheetOf s) phase)) ∷ check 15 (imageClose (sheetOf s) images) ∷ []) (image-parted s phase images) n
+  pub image_refused_above : (Passes 13 (image_checks s phase images) → ⊥) → (image_pick_of s phase images).status ≡ first (down_to 13 (image_checks s phase images))
+  image_refused_above n =
+      image_pick_status s phase images
+      ∙ first_above 13 (image_checks s phase images) (check 14 (none_clear (chosen (sheet_of s) phase)) ∷ check 15 (image_close (sheet_of s) images) ∷ []) (image_parted s phase images) n
 
   -- the checks down to 13 pass where the status is 0, 14 or 15, and by the rule only there
-  pub image-passes-joins : ((imagePickOf s phase images).status ≡ 0) ⊎ (((imagePickOf s phase images).status ≡ 14) ⊎ ((imagePickOf s phase images).status ≡ 15)) → Passes 13 (imageChecks s phase images)
-  image-passes-joins =
-      rw (image-pick-status s phase images, image-checks-are s phase images)
-      (pick-passes s (imageRows (sheetOf s) phase images) phase (imageClose (sheetOf s) images) (image-own s phase images))
+  pub image_passes_joins : ((image_pick_of s phase images).status ≡ 0) ⊎ (((image_pick_of s phase images).status ≡ 14) ⊎ ((image_pick_of s phase images).status ≡ 15)) → Passes 13 (image_checks s phase images)
+  image_passes_joins =
+      rw (image_pick_status s phase images, image_checks_are s phase images)
+      (pick_passes s (image_rows (sheet_of s) phase images) phase (image_close (sheet_of s) images) (image_own s phase images))
 
 -- ---- plane pick
 
@@ -96,14 +96,14 @@ module _ (s : List ℕ) where
   -- refusal 14 exactly where no grid point serves; otherwise 15 where the clearest covered grid point on the plane is
   -- too close, else status 0, with that point on the plane, its clearance and the number of
   -- covered grid points
-  pub plane-grid-rule : Passes 13 (planeChecks s) → Rule (sheetOf s) 0 (planePickOf s) (planeAnswer (sheetOf s))
-  plane-grid-rule = rw (plane-checks-are s, plane-is s) (pick-grid-rule s (planeRows (sheetOf s)) 0 (plane-own s) (planeAt (sheetOf s)) (closeAt (sheetOf s)))
+  pub plane_grid_rule : Passes 13 (plane_checks s) → Rule (sheet_of s) 0 (plane_pick_of s) (plane_answer (sheet_of s))
+  plane_grid_rule = rw (plane_checks_are s, plane_is s) (pick_grid_rule s (plane_rows (sheet_of s)) 0 (plane_own s) (plane_at (sheet_of s)) (close_at (sheet_of s)))
 
-  pub plane-refused-above : (Passes 13 (planeChecks s) → ⊥) → (planePickOf s).status ≡ first (downTo 13 (planeChecks s))
-  plane-refused-above n =
-      plane-pick-status s
-      ∙ first-above 13 (planeChecks s) (check 14 (noneClear (chosen (sheetOf s) 0)) ∷ check 15 (closeAt (sheetOf s) (chosen (sheetOf s) 0)) ∷ []) (plane-parted s) n
+  pub plane_refused_above : (Passes 13 (plane_checks s) → ⊥) → (plane_pick_of s).status ≡ first (down_to 13 (plane_checks s))
+  plane_refused_above n =
+      plane_pick_status s
+      ∙ first_above 13 (plane_checks s) (check 14 (none_clear (chosen (sheet_of s) 0)) ∷ check 15 (close_at (sheet_of s) (chosen (sheet_of s) 0)) ∷ []) (plane_parted s) n
 
-  pub plane-passes-joins : ((planePickOf s).status ≡ 0) ⊎ (((planePickOf s).status ≡ 14) ⊎ ((planePickOf s).status ≡ 15)) → Passes 13 (planeChecks s)
-  plane-passes-joins =
-      rw (plane-pick-status s, plane-checks-are s) (pick-passes s (planeRows (sheetOf s)) 0 (closeAt (sheetOf s) (chosen (sheetOf s) 0)) (plane-own s))
+  pub plane_passes_joins : ((plane_pick_of s).status ≡ 0) ⊎ (((plane_pick_of s).status ≡ 14) ⊎ ((plane_pick_of s).status ≡ 15)) → Passes 13 (plane_checks s)
+  plane_passes_joins =
+      rw (plane_pick_status s, plane_checks_are s) (pick_passes s (plane_rows (sheet_of s)) 0 (close_at (sheet_of s) (chosen (sheet_of s) 0)) (plane_own s))

@@ -7,12 +7,12 @@ use mathlib.Core.Bool.{Bool}
 use mathlib.Core.List.{List}
 use Prim.Native.Nat.{ℕ}
 use Rattle.sheet.specs.Content.{Point}
-use Rattle.sheet.specs.Layout.{sheetOf}
+use Rattle.sheet.specs.Layout.{sheet_of}
 use Rattle.chart.specs.Demand.{GroupsAdd}
-use Rattle.chart.proofs.Groups.{groups-add}
+use Rattle.chart.proofs.Groups.{groups_add}
 
-pub image-groups-add : (s : List ℕ) (phase : ℕ) (d : ℕ → Bool) (p : Point) → GroupsAdd (sheetOf s) phase d p
-image-groups-add s phase d p = groups-add s phase d p
+pub image_groups_add : (s : List ℕ) (phase : ℕ) (d : ℕ → Bool) (p : Point) → GroupsAdd (sheet_of s) phase d p
+image_groups_add s phase d p = groups_add s phase d p
 
-pub plane-groups-add : (s : List ℕ) (d : ℕ → Bool) (p : Point) → GroupsAdd (sheetOf s) 0 d p
-plane-groups-add s d p = groups-add s 0 d p
+pub plane_groups_add : (s : List ℕ) (d : ℕ → Bool) (p : Point) → GroupsAdd (sheet_of s) 0 d p
+plane_groups_add s d p = groups_add s 0 d p

@@ -9,163 +9,163 @@ use Prim.Native.Nat.{ℕ, ◌<◌}
 use native.Mathlib.Omega.{arith}
 use lib.Dec.{eqb}
 use lib.Ieee.{Float}
-use Rattle.leaves.proofs.Folds.{All, all-append}
+use Rattle.leaves.proofs.Folds.{All, all_append}
 use Rattle.space.specs.declared.vectors.Place.{Place}
 use Rattle.sheet.specs.Content.{point, Sheet}
-use Rattle.sheet.specs.Layout.{sheetOf}
+use Rattle.sheet.specs.Layout.{sheet_of}
 use Rattle.answers.specs.Outcome.{Check, check, first, Numbers, refused, settled}
-use Rattle.sheet.specs.Checks.{layoutChecks, contentChecks}
+use Rattle.sheet.specs.Checks.{layout_checks, content_checks}
 use Rattle.answers.proofs.FirstCheck.{Lacks, Numbered}
-use Rattle.sheet.proofs.Checked.{layout-all, content-all}
-use Rattle.chart.specs.Chart.{answered, chosen, frameChecks, noneClear}
-use Rattle.frame.specs.Framing.{frame, phaseWrong}
-use Rattle.chart.specs.Demand.{Passes, downTo}
+use Rattle.sheet.proofs.Checked.{layout_all, content_all}
+use Rattle.chart.specs.Chart.{answered, chosen, frame_checks, none_clear}
+use Rattle.frame.specs.Framing.{frame, phase_wrong}
+use Rattle.chart.specs.Demand.{Passes, down_to}
 use Rattle.search.specs.declared.candidate.Candidate.{Candidate}
-use Rattle.answers.proofs.Settled.{settled-refused, settled-status}
-use Rattle.chart.proofs.Outcomes.{Parted, down-behind, first-passes, frame-all, frame-down-all, frame-parted, parted-behind}
-use Rattle.picker.specs.Images.{lastImage}
-use Rattle.picker.specs.ImagePick.{imageChecks, imageClose, imagePickOf, imagesWrong}
-use Rattle.picker.specs.Answered.{answeredAt}
-use Rattle.physical.specs.Physical.{tooClose}
-use Rattle.picker.specs.PlanePick.{noPlane, planeChecks, planeClose, planeImages, planePickOf, planePoint}
-use Rattle.physical.specs.Plane.{onPlane}
+use Rattle.answers.proofs.Settled.{settled_refused, settled_status}
+use Rattle.chart.proofs.Outcomes.{Parted, down_behind, first_passes, frame_all, frame_down_all, frame_parted, parted_behind}
+use Rattle.picker.specs.Images.{last_image}
+use Rattle.picker.specs.ImagePick.{image_checks, image_close, image_pick_of, images_wrong}
+use Rattle.picker.specs.Answered.{answered_at}
+use Rattle.physical.specs.Physical.{too_close}
+use Rattle.picker.specs.PlanePick.{no_plane, plane_checks, plane_close, plane_images, plane_pick_of, plane_point}
+use Rattle.physical.specs.Plane.{on_plane}
 
 -- the table of a pick with the rows `own` between 7 and 11
-unfoldable pub pickChecks : List ℕ → List Check → ℕ → Bool → List Check
-pickChecks s own phase close = layoutChecks s ++ contentChecks (sheetOf s) ++ (own ++ frameChecks (sheetOf s) phase) ++ check 15 close ∷ []
+unfoldable pub pick_checks : List ℕ → List Check → ℕ → Bool → List Check
+pick_checks s own phase close = layout_checks s ++ content_checks (sheet_of s) ++ (own ++ frame_checks (sheet_of s) phase) ++ check 15 close ∷ []
 
-unfoldable pub pickOf : List ℕ → List Check → ℕ → Place → Bool → Numbers
-unfolding pickChecks
-pickOf s own phase p close = settled (first (pickChecks s own phase close)) (answeredAt p (chosen (sheetOf s) phase))
+unfoldable pub pick_of : List ℕ → List Check → ℕ → Place → Bool → Numbers
+unfolding pick_checks
+pick_of s own phase p close = settled (first (pick_checks s own phase close)) (answered_at p (chosen (sheet_of s) phase))
 
 -- the numbers that stand between 7 and 11 are no 0, and none of those from 13 on
 pub record Own (own : List Check) : Type 0 where
   pub numbered : Numbered own
-  pub no-13 : Lacks 13 own
-  pub no-14 : Lacks 14 own
-  pub no-15 : Lacks 15 own
+  pub no_13 : Lacks 13 own
+  pub no_14 : Lacks 14 own
+  pub no_15 : Lacks 15 own
 
 -- ---- the status, and what stands beside a refusal
 
 module _ (s : List ℕ) (own : List Check) (phase : ℕ) (p : Place) (close : Bool) where
-  pub pick-status : (pickOf s own phase p close).status ≡ first (pickChecks s own phase close)
-  unfolding pickOf answeredAt
-  pick-status = settled-status (first (pickChecks s own phase close)) (answeredAt p (chosen (sheetOf s) phase)) refl
+  pub pick_status : (pick_of s own phase p close).status ≡ first (pick_checks s own phase close)
+  unfolding pick_of answered_at
+  pick_status = settled_status (first (pick_checks s own phase close)) (answered_at p (chosen (sheet_of s) phase)) refl
 
-  pub pick-refused : ((pickOf s own phase p close).status ≡ 0 → ⊥) → pickOf s own phase p close ≡ refused (pickOf s own phase p close).status
-  unfolding pickOf
-  pick-refused h =
-      settled-refused (first (pickChecks s own phase close)) (answeredAt p (chosen (sheetOf s) phase)) (λ e. h (pick-status ∙ e))
-      ∙ ap refused (sym pick-status)
+  pub pick_refused : ((pick_of s own phase p close).status ≡ 0 → ⊥) → pick_of s own phase p close ≡ refused (pick_of s own phase p close).status
+  unfolding pick_of
+  pick_refused h =
+      settled_refused (first (pick_checks s own phase close)) (answered_at p (chosen (sheet_of s) phase)) (λ e. h (pick_status ∙ e))
+      ∙ ap refused (sym pick_status)
 
 -- ---- the table
 
 module _ (s : List ℕ) (own : List Check) (phase : ℕ) (close : Bool) where
   abbrev sheet : Sheet
-  sheet = sheetOf s
+  sheet = sheet_of s
 
   -- the rows down to the call's own
   abbrev above : List Check
-  above = layoutChecks s ++ contentChecks sheet ++ own
+  above = layout_checks s ++ content_checks sheet ++ own
 
   -- those from 11 on
   abbrev rest : List Check
-  rest = frameChecks sheet phase ++ check 15 close ∷ []
+  rest = frame_checks sheet phase ++ check 15 close ∷ []
 
   -- and those behind 13
   abbrev behind : List Check
-  behind = check 14 (noneClear (chosen sheet phase)) ∷ check 15 close ∷ []
+  behind = check 14 (none_clear (chosen sheet phase)) ∷ check 15 close ∷ []
 
-  rows-are : pickChecks s own phase close ≡ above ++ rest
-  unfolding pickChecks
-  rows-are =
-      let l = layoutChecks s ++ contentChecks sheet in
-      let f = frameChecks sheet phase in
+  rows_are : pick_checks s own phase close ≡ above ++ rest
+  unfolding pick_checks
+  rows_are =
+      let l = layout_checks s ++ content_checks sheet in
+      let f = frame_checks sheet phase in
       ap (λ (cs : List Check). cs ++ check 15 close ∷ []) (sym (append_assoc l own f)) ∙ append_assoc (l ++ own) f (check 15 close ∷ [])
 
   -- what holds of the rows' numbers
-  above-all : (P : ℕ → Type 0) → P 1 × P 2 × P 3 × P 4 × P 5 → P 6 × P 7 → All (λ (c : Check). P c.number) own → All (λ (c : Check). P c.number) above
-  above-all P l c o =
+  above_all : (P : ℕ → Type 0) → P 1 × P 2 × P 3 × P 4 × P 5 → P 6 × P 7 → All (λ (c : Check). P c.number) own → All (λ (c : Check). P c.number) above
+  above_all P l c o =
       let Q : Check → Type 0 = λ c. P c.number in
-      all-append Q (layoutChecks s ++ contentChecks sheet) own (all-append Q (layoutChecks s) (contentChecks sheet) (layout-all P s l) (content-all P sheet c)) o
+      all_append Q (layout_checks s ++ content_checks sheet) own (all_append Q (layout_checks s) (content_checks sheet) (layout_all P s l) (content_all P sheet c)) o
 
-  pub pick-all : (P : ℕ → Type 0) → P 1 × P 2 × P 3 × P 4 × P 5 → P 6 × P 7 → All (λ (c : Check). P c.number) own → P 11 × P 12 × P 13 × P 14 → P 15
-      → All (λ (c : Check). P c.number) (pickChecks s own phase close)
-  pick-all P l c o f e =
+  pub pick_all : (P : ℕ → Type 0) → P 1 × P 2 × P 3 × P 4 × P 5 → P 6 × P 7 → All (λ (c : Check). P c.number) own → P 11 × P 12 × P 13 × P 14 → P 15
+      → All (λ (c : Check). P c.number) (pick_checks s own phase close)
+  pick_all P l c o f e =
       let Q : Check → Type 0 = λ c. P c.number in
-      subst (All Q) (sym rows-are) (all-append Q above rest (above-all P l c o) (all-append Q (frameChecks sheet phase) (check 15 close ∷ []) (frame-all P sheet phase f) (e, tt)))
+      subst (All Q) (sym rows_are) (all_append Q above rest (above_all P l c o) (all_append Q (frame_checks sheet phase) (check 15 close ∷ []) (frame_all P sheet phase f) (e, tt)))
 
   module _ (o : Own own) where
-    above-13 : Lacks 13 above
-    above-13 = above-all (λ (n : ℕ). eqb n 13 ≡ false) (refl, refl, refl, refl, refl) (refl, refl) o.no-13
+    above_13 : Lacks 13 above
+    above_13 = above_all (λ (n : ℕ). eqb n 13 ≡ false) (refl, refl, refl, refl, refl) (refl, refl) o.no_13
 
-    pub pick-parted : Parted 13 (pickChecks s own phase close) (check 14 (noneClear (chosen (sheetOf s) phase)) ∷ check 15 close ∷ [])
-    pick-parted = subst (λ (cs : List Check). Parted 13 cs behind) (sym rows-are) (parted-behind 13 above rest behind above-13 (frame-parted sheet phase (check 15 close ∷ [])))
+    pub pick_parted : Parted 13 (pick_checks s own phase close) (check 14 (none_clear (chosen (sheet_of s) phase)) ∷ check 15 close ∷ [])
+    pick_parted = subst (λ (cs : List Check). Parted 13 cs behind) (sym rows_are) (parted_behind 13 above rest behind above_13 (frame_parted sheet phase (check 15 close ∷ [])))
 
-    pub pick-numbered : Numbered (pickChecks s own phase close)
-    pick-numbered = pick-all (λ (n : ℕ). 0 < n) (omega arith) (omega arith) o.numbered (omega arith) (omega arith)
+    pub pick_numbered : Numbered (pick_checks s own phase close)
+    pick_numbered = pick_all (λ (n : ℕ). 0 < n) (omega arith) (omega arith) o.numbered (omega arith) (omega arith)
 
     -- the rows down to 13, and a number that none of them has
-    down-are : downTo 13 (pickChecks s own phase close) ≡ above ++ downTo 13 rest
-    down-are = ap (downTo 13) rows-are ∙ down-behind 13 above rest above-13
+    down_are : down_to 13 (pick_checks s own phase close) ≡ above ++ down_to 13 rest
+    down_are = ap (down_to 13) rows_are ∙ down_behind 13 above rest above_13
 
     abbrev Not : ℕ → ℕ → Type 0
     Not n m = eqb m n ≡ false
 
-    down-lacks : (n : ℕ) → Not n 1 × Not n 2 × Not n 3 × Not n 4 × Not n 5 → Not n 6 × Not n 7 → Lacks n own → Not n 11 × Not n 12 × Not n 13 → Lacks n (downTo 13 (pickChecks s own phase close))
-    down-lacks n l c o f =
-        subst (Lacks n) (sym down-are)
-        (all-append (λ (c : Check). Not n c.number) above (downTo 13 rest) (above-all (Not n) l c o) (frame-down-all sheet phase (check 15 close ∷ []) (Not n) f))
+    down_lacks : (n : ℕ) → Not n 1 × Not n 2 × Not n 3 × Not n 4 × Not n 5 → Not n 6 × Not n 7 → Lacks n own → Not n 11 × Not n 12 × Not n 13 → Lacks n (down_to 13 (pick_checks s own phase close))
+    down_lacks n l c o f =
+        subst (Lacks n) (sym down_are)
+        (all_append (λ (c : Check). Not n c.number) above (down_to 13 rest) (above_all (Not n) l c o) (frame_down_all sheet phase (check 15 close ∷ []) (Not n) f))
 
     -- they pass where the first that fails is none, 14 or 15
-    pub pick-passes : (first (pickChecks s own phase close) ≡ 0) ⊎ ((first (pickChecks s own phase close) ≡ 14) ⊎ (first (pickChecks s own phase close) ≡ 15)) → Passes 13 (pickChecks s own phase close)
-    pick-passes =
-        let passes = first-passes 13 (pickChecks s own phase close) behind pick-parted in
-        ⊎_elim (passes 0 (λ l. absurd (omega (arith, l)))) (⊎_elim (passes 14 (λ l. down-lacks 14 (refl, refl, refl, refl, refl) (refl, refl) o.no-14 (refl, refl, refl))) (passes 15 (λ l. down-lacks 15 (refl, refl, refl, refl, refl) (refl, refl) o.no-15 (refl, refl, refl))))
+    pub pick_passes : (first (pick_checks s own phase close) ≡ 0) ⊎ ((first (pick_checks s own phase close) ≡ 14) ⊎ (first (pick_checks s own phase close) ≡ 15)) → Passes 13 (pick_checks s own phase close)
+    pick_passes =
+        let passes = first_passes 13 (pick_checks s own phase close) behind pick_parted in
+        ⊎_elim (passes 0 (λ l. absurd (omega (arith, l)))) (⊎_elim (passes 14 (λ l. down_lacks 14 (refl, refl, refl, refl, refl) (refl, refl) o.no_14 (refl, refl, refl))) (passes 15 (λ l. down_lacks 15 (refl, refl, refl, refl, refl) (refl, refl) o.no_15 (refl, refl, refl))))
 
 -- ---- image pick
 
-abbrev pub imageRows : Sheet → ℕ → List Float → List Check
-imageRows s phase images = check 8 (phaseWrong s phase) ∷ check 10 (imagesWrong s images) ∷ []
+abbrev pub image_rows : Sheet → ℕ → List Float → List Check
+image_rows s phase images = check 8 (phase_wrong s phase) ∷ check 10 (images_wrong s images) ∷ []
 
 module _ (s : List ℕ) (phase : ℕ) (images : List Float) where
-  pub image-own : Own (imageRows (sheetOf s) phase images)
-  image-own = record { numbered = omega arith; no-13 = (refl, (refl, tt)); no-14 = (refl, (refl, tt)); no-15 = (refl, (refl, tt)) }
+  pub image_own : Own (image_rows (sheet_of s) phase images)
+  image_own = record { numbered = omega arith; no_13 = (refl, (refl, tt)); no_14 = (refl, (refl, tt)); no_15 = (refl, (refl, tt)) }
 
-  pub image-checks-are : imageChecks s phase images ≡ pickChecks s (imageRows (sheetOf s) phase images) phase (imageClose (sheetOf s) images)
-  unfolding imageChecks pickChecks
-  image-checks-are = refl
+  pub image_checks_are : image_checks s phase images ≡ pick_checks s (image_rows (sheet_of s) phase images) phase (image_close (sheet_of s) images)
+  unfolding image_checks pick_checks
+  image_checks_are = refl
 
-  pub image-parted : Parted 13 (imageChecks s phase images) (check 14 (noneClear (chosen (sheetOf s) phase)) ∷ check 15 (imageClose (sheetOf s) images) ∷ [])
-  image-parted = rw image-checks-are (pick-parted s (imageRows (sheetOf s) phase images) phase (imageClose (sheetOf s) images) image-own)
+  pub image_parted : Parted 13 (image_checks s phase images) (check 14 (none_clear (chosen (sheet_of s) phase)) ∷ check 15 (image_close (sheet_of s) images) ∷ [])
+  image_parted = rw image_checks_are (pick_parted s (image_rows (sheet_of s) phase images) phase (image_close (sheet_of s) images) image_own)
 
-  pub image-is : imagePickOf s phase images ≡ pickOf s (imageRows (sheetOf s) phase images) phase (lastImage (sheetOf s) images) (imageClose (sheetOf s) images)
-  unfolding imagePickOf imageChecks pickOf pickChecks
-  image-is = refl
+  pub image_is : image_pick_of s phase images ≡ pick_of s (image_rows (sheet_of s) phase images) phase (last_image (sheet_of s) images) (image_close (sheet_of s) images)
+  unfolding image_pick_of image_checks pick_of pick_checks
+  image_is = refl
 
 -- ---- plane pick
 
-abbrev pub planeRows : Sheet → List Check
-planeRows s = check 8 (noPlane s) ∷ []
+abbrev pub plane_rows : Sheet → List Check
+plane_rows s = check 8 (no_plane s) ∷ []
 
 -- a grid point by the plane stand-in, and 15 there
-abbrev pub planeAt : Sheet → Candidate → Place
-planeAt s c = onPlane s.plane (point (answered (frame s 0) 0 c).x (answered (frame s 0) 0 c).y)
+abbrev pub plane_at : Sheet → Candidate → Place
+plane_at s c = on_plane s.plane (point (answered (frame s 0) 0 c).x (answered (frame s 0) 0 c).y)
 
-abbrev pub closeAt : Sheet → Candidate → Bool
-closeAt s c = tooClose s (planeAt s c) (planeImages s)
+abbrev pub close_at : Sheet → Candidate → Bool
+close_at s c = too_close s (plane_at s c) (plane_images s)
 
 module _ (s : List ℕ) where
-  pub plane-own : Own (planeRows (sheetOf s))
-  plane-own = record { numbered = omega arith; no-13 = (refl, tt); no-14 = (refl, tt); no-15 = (refl, tt) }
+  pub plane_own : Own (plane_rows (sheet_of s))
+  plane_own = record { numbered = omega arith; no_13 = (refl, tt); no_14 = (refl, tt); no_15 = (refl, tt) }
 
-  pub plane-checks-are : planeChecks s ≡ pickChecks s (planeRows (sheetOf s)) 0 (closeAt (sheetOf s) (chosen (sheetOf s) 0))
-  unfolding planeChecks planeClose planePoint pickChecks
-  plane-checks-are = refl
+  pub plane_checks_are : plane_checks s ≡ pick_checks s (plane_rows (sheet_of s)) 0 (close_at (sheet_of s) (chosen (sheet_of s) 0))
+  unfolding plane_checks plane_close plane_point pick_checks
+  plane_checks_are = refl
 
-  pub plane-parted : Parted 13 (planeChecks s) (check 14 (noneClear (chosen (sheetOf s) 0)) ∷ check 15 (closeAt (sheetOf s) (chosen (sheetOf s) 0)) ∷ [])
-  plane-parted = rw plane-checks-are (pick-parted s (planeRows (sheetOf s)) 0 (closeAt (sheetOf s) (chosen (sheetOf s) 0)) plane-own)
+  pub plane_parted : Parted 13 (plane_checks s) (check 14 (none_clear (chosen (sheet_of s) 0)) ∷ check 15 (close_at (sheet_of s) (chosen (sheet_of s) 0)) ∷ [])
+  plane_parted = rw plane_checks_are (pick_parted s (plane_rows (sheet_of s)) 0 (close_at (sheet_of s) (chosen (sheet_of s) 0)) plane_own)
 
-  pub plane-is : planePickOf s ≡ pickOf s (planeRows (sheetOf s)) 0 (planeAt (sheetOf s) (chosen (sheetOf s) 0)) (closeAt (sheetOf s) (chosen (sheetOf s) 0))
-  unfolding planePickOf planeChecks planeClose planePoint pickOf pickChecks
-  plane-is = refl
+  pub plane_is : plane_pick_of s ≡ pick_of s (plane_rows (sheet_of s)) 0 (plane_at (sheet_of s) (chosen (sheet_of s) 0)) (close_at (sheet_of s) (chosen (sheet_of s) 0))
+  unfolding plane_pick_of plane_checks plane_close plane_point pick_of pick_checks
+  plane_is = refl

@@ -13,145 +13,145 @@ use native.Mathlib.Omega.{arith}
 use lib.Ieee.{Float}
 use lib.ListN.{length, drop}
 use lib.Seq.{drop_at}
-use Rattle.leaves.proofs.Folds.{All, all-perm}
-use Rattle.space.specs.Places.{placeAt}
+use Rattle.leaves.proofs.Folds.{All, all_perm}
+use Rattle.space.specs.Places.{place_at}
 use Rattle.space.specs.declared.vectors.Place.{Place}
 use Rattle.sheet.specs.Content.{Coedge, Sheet}
-use Rattle.sheet.specs.Layout.{head, blocks, ring, sheetOf}
+use Rattle.sheet.specs.Layout.{head, blocks, ring, sheet_of}
 use Rattle.answers.specs.Outcome.{Check, check, first, settled}
-use Rattle.sheet.specs.Checks.{layoutChecks, contentChecks}
-use Rattle.sheet.proofs.BlockOrder.{deviations-clear, its-blocks, its-layout, its-rings, its-sheet, rings-are, rings-clear, whole, withRings}
-use Rattle.answers.proofs.FirstCheck.{first-passed}
-use Rattle.sheet.proofs.Checked.{layout-numbered}
-use Rattle.answers.proofs.Permutations.{flatten-perm, lift-perm, map-perm}
-use Rattle.chart.specs.Chart.{chosen, frameChecks}
-use Rattle.frame.specs.Framing.{pointCount}
-use Rattle.picker.specs.Images.{lastImage}
-use Rattle.physical.specs.Images.{ringImages}
-use Rattle.picker.specs.Answered.{answeredAt}
-use Rattle.picker.specs.ImagePick.{imageClose, imagePickOf}
-use Rattle.picker.specs.PlanePick.{planeClose, planePickOf, planePoint}
-use Rattle.picker.specs.Demand.{Imaged, imaged, imagesWith, sheetWith}
-use Rattle.picker.proofs.AnyOrder.{contentPick, imagePick, planePick, same-image-pick, same-plane-pick, same-wrong-pick}
-use Rattle.picker.proofs.Picks.{image-is, imageRows, pickChecks, pickOf, plane-is, planeRows}
-use Rattle.picker.proofs.Carried.{Fitting, blockOf, blocks-back, images-back, imagesOf, last-behind, numbersIn, parts-back, parts-fit, parts-length, placesOf, ring-images}
+use Rattle.sheet.specs.Checks.{layout_checks, content_checks}
+use Rattle.sheet.proofs.BlockOrder.{deviations_clear, its_blocks, its_layout, its_rings, its_sheet, rings_are, rings_clear, whole, with_rings}
+use Rattle.answers.proofs.FirstCheck.{first_passed}
+use Rattle.sheet.proofs.Checked.{layout_numbered}
+use Rattle.answers.proofs.Permutations.{flatten_perm, lift_perm, map_perm}
+use Rattle.chart.specs.Chart.{chosen, frame_checks}
+use Rattle.frame.specs.Framing.{point_count}
+use Rattle.picker.specs.Images.{last_image}
+use Rattle.physical.specs.Images.{ring_images}
+use Rattle.picker.specs.Answered.{answered_at}
+use Rattle.picker.specs.ImagePick.{image_close, image_pick_of}
+use Rattle.picker.specs.PlanePick.{plane_close, plane_pick_of, plane_point}
+use Rattle.picker.specs.Demand.{Imaged, imaged, images_with, sheet_with}
+use Rattle.picker.proofs.AnyOrder.{content_pick, image_pick, plane_pick, same_image_pick, same_plane_pick, same_wrong_pick}
+use Rattle.picker.proofs.Picks.{image_is, image_rows, pick_checks, pick_of, plane_is, plane_rows}
+use Rattle.picker.proofs.Carried.{Fitting, block_of, blocks_back, images_back, images_of, last_behind, numbers_in, parts_back, parts_fit, parts_length, places_of, ring_images_lem}
 
 -- ---- a sheet whose layout reads: its picks are those of its content
 
-module _ (s : List ℕ) (reads : first (layoutChecks s) ≡ 0) where
-  pick-content : (own : List Check) (phase : ℕ) (p : Place) (close : Bool)
-      → pickOf s own phase p close ≡ contentPick (sheetOf s) own phase p close
-  unfolding pickOf pickChecks
-  pick-content own phase p close =
-      let content = contentChecks (sheetOf s) in
-      let rows = own ++ frameChecks (sheetOf s) phase in
+module _ (s : List ℕ) (reads : first (layout_checks s) ≡ 0) where
+  pick_content : (own : List Check) (phase : ℕ) (p : Place) (close : Bool)
+      → pick_of s own phase p close ≡ content_pick (sheet_of s) own phase p close
+  unfolding pick_of pick_checks
+  pick_content own phase p close =
+      let content = content_checks (sheet_of s) in
+      let rows = own ++ frame_checks (sheet_of s) phase in
       let last = check 15 close ∷ [] in
-      ap (λ (r : ℕ). settled r (answeredAt p (chosen (sheetOf s) phase)))
-      (ap first (ap (λ (cs : List Check). cs ++ last) (append_assoc (layoutChecks s) content rows) ∙ append_assoc (layoutChecks s) (content ++ rows) last) ∙ first-passed (layoutChecks s) (content ++ rows ++ last) (layout-numbered s) reads)
+      ap (λ (r : ℕ). settled r (answered_at p (chosen (sheet_of s) phase)))
+      (ap first (ap (λ (cs : List Check). cs ++ last) (append_assoc (layout_checks s) content rows) ∙ append_assoc (layout_checks s) (content ++ rows) last) ∙ first_passed (layout_checks s) (content ++ rows ++ last) (layout_numbered s) reads)
 
-  plane-content : planePickOf s ≡ planePick (sheetOf s)
-  unfolding planePoint planeClose
-  plane-content = plane-is s ∙ pick-content (planeRows (sheetOf s)) 0 (planePoint (sheetOf s)) (planeClose (sheetOf s))
+  plane_content : plane_pick_of s ≡ plane_pick (sheet_of s)
+  unfolding plane_point plane_close
+  plane_content = plane_is s ∙ pick_content (plane_rows (sheet_of s)) 0 (plane_point (sheet_of s)) (plane_close (sheet_of s))
 
-  image-content : (phase : ℕ) (images : List Float) → imagePickOf s phase images ≡ imagePick (sheetOf s) phase images
-  image-content phase images =
-      image-is s phase images ∙ pick-content (imageRows (sheetOf s) phase images) phase (lastImage (sheetOf s) images) (imageClose (sheetOf s) images)
+  image_content : (phase : ℕ) (images : List Float) → image_pick_of s phase images ≡ image_pick (sheet_of s) phase images
+  image_content phase images =
+      image_is s phase images ∙ pick_content (image_rows (sheet_of s) phase images) phase (last_image (sheet_of s) images) (image_close (sheet_of s) images)
 
 -- ---- of bytes
 
 -- every order of the blocks is that of blocks with their images, whatever the images
-pub every-order : (s : List ℕ) (images : List Float) (bs : List (List ℕ)) → Permᴰ (blocks s) bs
+pub every_order : (s : List ℕ) (images : List Float) (bs : List (List ℕ)) → Permᴰ (blocks s) bs
     → (parts : List Imaged) × Permᴰ (imaged (blocks s) images) parts × (map (λ (r : Imaged). r.block) parts ≡ bs)
-every-order s images bs d = lift-perm blockOf (imaged (blocks s) images) (subst (λ (l : List (List ℕ)). Permᴰ l bs) (sym (blocks-back (blocks s) images)) d)
+every_order s images bs d = lift_perm block_of (imaged (blocks s) images) (subst (λ (l : List (List ℕ)). Permᴰ l bs) (sym (blocks_back (blocks s) images)) d)
 
-module _ (s : List ℕ) (reads : first (layoutChecks s) ≡ 0) where
+module _ (s : List ℕ) (reads : first (layout_checks s) ≡ 0) where
   abbrev z : Sheet
-  z = sheetOf s
+  z = sheet_of s
 
   module _ (bs : List (List ℕ)) (d : Permᴰ (blocks s) bs) where
-    its-plane-pick : planePickOf (head s ++ flatten bs) ≡ planePickOf s
-    its-plane-pick =
-        plane-content (head s ++ flatten bs) (its-layout s reads bs d)
-        ∙ ap planePick (its-sheet s reads bs d)
-        ∙ sym (same-plane-pick z (map ring bs) (its-rings s reads bs d) (rings-clear s) (deviations-clear s))
-        ∙ sym (plane-content s reads)
+    its_plane_pick : plane_pick_of (head s ++ flatten bs) ≡ plane_pick_of s
+    its_plane_pick =
+        plane_content (head s ++ flatten bs) (its_layout s reads bs d)
+        ∙ ap plane_pick (its_sheet s reads bs d)
+        ∙ sym (same_plane_pick z (map ring bs) (its_rings s reads bs d) (rings_clear s) (deviations_clear s))
+        ∙ sym (plane_content s reads)
 
-    pub plane-pick-reordered : (first (layoutChecks (head s ++ flatten bs)) ≡ 0) × (blocks (head s ++ flatten bs) ≡ bs) × (planePickOf (head s ++ flatten bs) ≡ planePickOf s)
-    plane-pick-reordered = (its-layout s reads bs d, its-blocks s reads bs d, its-plane-pick)
+    pub plane_pick_reordered : (first (layout_checks (head s ++ flatten bs)) ≡ 0) × (blocks (head s ++ flatten bs) ≡ bs) × (plane_pick_of (head s ++ flatten bs) ≡ plane_pick_of s)
+    plane_pick_reordered = (its_layout s reads bs d, its_blocks s reads bs d, its_plane_pick)
 
-    its-image-content : (phase : ℕ) (images : List Float) → imagePickOf (head s ++ flatten bs) phase images ≡ imagePick (withRings z (map ring bs)) phase images
-    its-image-content phase images =
-        image-content (head s ++ flatten bs) (its-layout s reads bs d) phase images ∙ ap (λ (y : Sheet). imagePick y phase images) (its-sheet s reads bs d)
+    its_image_content : (phase : ℕ) (images : List Float) → image_pick_of (head s ++ flatten bs) phase images ≡ image_pick (with_rings z (map ring bs)) phase images
+    its_image_content phase images =
+        image_content (head s ++ flatten bs) (its_layout s reads bs d) phase images ∙ ap (λ (y : Sheet). image_pick y phase images) (its_sheet s reads bs d)
 
     -- "an image list of wrong length stays as it is"
-    pub image-pick-wrong-length : (images : List Float) → (length images ≡ 3 * (pointCount (sheetOf s) + 1) → ⊥) → (phase : ℕ)
-        → imagePickOf (head s ++ flatten bs) phase images ≡ imagePickOf s phase images
-    image-pick-wrong-length images wrong phase =
-        its-image-content phase images
-        ∙ sym (same-wrong-pick z (map ring bs) (its-rings s reads bs d) phase images wrong)
-        ∙ sym (image-content s reads phase images)
+    pub image_pick_wrong_length : (images : List Float) → (length images ≡ 3 * (point_count (sheet_of s) + 1) → ⊥) → (phase : ℕ)
+        → image_pick_of (head s ++ flatten bs) phase images ≡ image_pick_of s phase images
+    image_pick_wrong_length images wrong phase =
+        its_image_content phase images
+        ∙ sym (same_wrong_pick z (map ring bs) (its_rings s reads bs d) phase images wrong)
+        ∙ sym (image_content s reads phase images)
 
   -- ---- "each ring's images go where its block goes, the last image stays"
 
-  count-is : 3 * pointCount z ≡ numbersIn z (blocks s)
-  count-is = ap (λ (rs : List (List Coedge)). 3 * pointCount (withRings z rs)) (rings-are s)
+  count_is : 3 * point_count z ≡ numbers_in z (blocks s)
+  count_is = ap (λ (rs : List (List Coedge)). 3 * point_count (with_rings z rs)) (rings_are s)
 
-  module _ (images : List Float) (right : length images ≡ 3 * (pointCount (sheetOf s) + 1)) where
+  module _ (images : List Float) (right : length images ≡ 3 * (point_count (sheet_of s) + 1)) where
     abbrev last : List Float
-    last = drop (3 * pointCount z) images
+    last = drop (3 * point_count z) images
 
-    own-sheet : s ≡ sheetWith s (imaged (blocks s) images)
-    unfolding sheetWith
-    own-sheet = whole s reads ∙ ap (λ (bs : List (List ℕ)). head s ++ flatten bs) (sym (blocks-back (blocks s) images))
+    own_sheet : s ≡ sheet_with s (imaged (blocks s) images)
+    unfolding sheet_with
+    own_sheet = whole s reads ∙ ap (λ (bs : List (List ℕ)). head s ++ flatten bs) (sym (blocks_back (blocks s) images))
 
-    own-images : images ≡ imagesWith s images (imaged (blocks s) images)
-    unfolding imagesWith
-    own-images = sym (ap (λ (n : ℕ). flatten (map imagesOf (imaged (blocks s) images)) ++ drop n images) count-is ∙ images-back z (blocks s) images)
+    own_images : images ≡ images_with s images (imaged (blocks s) images)
+    unfolding images_with
+    own_images = sym (ap (λ (n : ℕ). flatten (map images_of (imaged (blocks s) images)) ++ drop n images) count_is ∙ images_back z (blocks s) images)
 
     module _ (parts : List Imaged) (d : Permᴰ (imaged (blocks s) images) parts) where
       abbrev bs : List (List ℕ)
-      bs = map blockOf parts
+      bs = map block_of parts
 
       abbrev images' : List Float
-      images' = flatten (map imagesOf parts) ++ last
+      images' = flatten (map images_of parts) ++ last
 
-      blocks-perm : Permᴰ (blocks s) bs
-      blocks-perm = subst (λ (l : List (List ℕ)). Permᴰ l bs) (blocks-back (blocks s) images) (map-perm blockOf d)
+      blocks_perm : Permᴰ (blocks s) bs
+      blocks_perm = subst (λ (l : List (List ℕ)). Permᴰ l bs) (blocks_back (blocks s) images) (map_perm block_of d)
 
-      images-perm : Permᴰ images images'
-      unfolding imagesWith
-      images-perm = subst (λ (l : List Float). Permᴰ l images') (sym own-images) (Permᴰ.append_right last (flatten-perm (map-perm imagesOf d)))
+      images_perm : Permᴰ images images'
+      unfolding images_with
+      images_perm = subst (λ (l : List Float). Permᴰ l images') (sym own_images) (Permᴰ.append_right last (flatten_perm (map_perm images_of d)))
 
       fit : All Fitting parts
-      fit = all-perm Fitting d (parts-fit z (blocks s) images (omega (arith, right, count-is)))
+      fit = all_perm Fitting d (parts_fit z (blocks s) images (omega (arith, right, count_is)))
 
       back : imaged bs images' ≡ parts
-      back = parts-back parts fit last
+      back = parts_back parts fit last
 
-      ringwise : Permᴰ (ringImages z.rings images) (ringImages (map ring bs) images')
+      ringwise : Permᴰ (ring_images z.rings images) (ring_images (map ring bs) images')
       ringwise =
-          let before : ringImages z.rings images ≡ map placesOf (imaged (blocks s) images) = ap (λ (rs : List (List Coedge)). ringImages rs images) (rings-are s) ∙ ring-images (blocks s) images in
-          let after : ringImages (map ring bs) images' ≡ map placesOf parts = ring-images bs images' ∙ ap (map placesOf) back in
-          rw (before, after) (map-perm placesOf d)
+          let before : ring_images z.rings images ≡ map places_of (imaged (blocks s) images) = ap (λ (rs : List (List Coedge)). ring_images rs images) (rings_are s) ∙ ring_images_lem (blocks s) images in
+          let after : ring_images (map ring bs) images' ≡ map places_of parts = ring_images_lem bs images' ∙ ap (map places_of) back in
+          rw (before, after) (map_perm places_of d)
 
-      same-last : lastImage z images ≡ lastImage (withRings z (map ring bs)) images'
-      same-last =
-          last-behind z images
-          ∙ ap (λ (l : List Float). placeAt l 0) (sym (drop_at (flatten (map imagesOf parts)) last (numbersIn z bs) (parts-length z parts fit)))
-          ∙ sym (last-behind (withRings z (map ring bs)) images')
+      same_last : last_image z images ≡ last_image (with_rings z (map ring bs)) images'
+      same_last =
+          last_behind z images
+          ∙ ap (λ (l : List Float). place_at l 0) (sym (drop_at (flatten (map images_of parts)) last (numbers_in z bs) (parts_length z parts fit)))
+          ∙ sym (last_behind (with_rings z (map ring bs)) images')
 
-      its-image-pick : (phase : ℕ) → imagePickOf (head s ++ flatten bs) phase images' ≡ imagePickOf s phase images
-      its-image-pick phase =
-          its-image-content bs blocks-perm phase images'
-          ∙ sym (same-image-pick z (map ring bs) (its-rings s reads bs blocks-perm) (rings-clear s) (deviations-clear s) images-perm ringwise same-last phase)
-          ∙ sym (image-content s reads phase images)
+      its_image_pick : (phase : ℕ) → image_pick_of (head s ++ flatten bs) phase images' ≡ image_pick_of s phase images
+      its_image_pick phase =
+          its_image_content bs blocks_perm phase images'
+          ∙ sym (same_image_pick z (map ring bs) (its_rings s reads bs blocks_perm) (rings_clear s) (deviations_clear s) images_perm ringwise same_last phase)
+          ∙ sym (image_content s reads phase images)
 
-      its-parts : imaged (blocks (head s ++ flatten bs)) images' ≡ parts
-      its-parts = ap (λ (l : List (List ℕ)). imaged l images') (its-blocks s reads bs blocks-perm) ∙ back
+      its_parts : imaged (blocks (head s ++ flatten bs)) images' ≡ parts
+      its_parts = ap (λ (l : List (List ℕ)). imaged l images') (its_blocks s reads bs blocks_perm) ∙ back
 
-      pub image-pick-reordered : (s ≡ sheetWith s (imaged (blocks s) images)) × (images ≡ imagesWith s images (imaged (blocks s) images))
-          × (first (layoutChecks (sheetWith s parts)) ≡ 0) × (blocks (sheetWith s parts) ≡ map (λ (r : Imaged). r.block) parts)
-          × (imaged (blocks (sheetWith s parts)) (imagesWith s images parts) ≡ parts)
-          × ((phase : ℕ) → imagePickOf (sheetWith s parts) phase (imagesWith s images parts) ≡ imagePickOf s phase images)
-      unfolding sheetWith imagesWith
-      image-pick-reordered = (own-sheet, own-images, its-layout s reads bs blocks-perm, its-blocks s reads bs blocks-perm, its-parts, its-image-pick)
+      pub image_pick_reordered : (s ≡ sheet_with s (imaged (blocks s) images)) × (images ≡ images_with s images (imaged (blocks s) images))
+          × (first (layout_checks (sheet_with s parts)) ≡ 0) × (blocks (sheet_with s parts) ≡ map (λ (r : Imaged). r.block) parts)
+          × (imaged (blocks (sheet_with s parts)) (images_with s images parts) ≡ parts)
+          × ((phase : ℕ) → image_pick_of (sheet_with s parts) phase (images_with s images parts) ≡ image_pick_of s phase images)
+      unfolding sheet_with images_with
+      image_pick_reordered = (own_sheet, own_images, its_layout s reads bs blocks_perm, its_blocks s reads bs blocks_perm, its_parts, its_image_pick)

@@ -3,5 +3,5 @@ use Rattle.answers.specs.Outcome.{Numbers}
 use Rattle.space.specs.declared.vectors.Place.{Place}
 use Rattle.search.specs.declared.candidate.Candidate.{Candidate}
 
-unfoldable pub answeredAt : Place → Candidate → Numbers
-answeredAt p c = record { status = 0; x = p.x; y = p.y; z = p.z; clearance = c.clearance; count = c.count }
+unfoldable pub answered_at : Place → Candidate → Numbers
+answered_at p c = record { status = 0; x = p.x; y = p.y; z = p.z; clearance = c.clearance; count = c.count }

@@ -1,10 +1,10 @@
 // Image pick and plane pick.
 ghost use Rattle.std.specs.Prelude.{◌≡◌, ◌*◌, ◌≤◌, eqb, length};
-ghost use Rattle.answers.specs.Answers.{paper, isPoint};
-ghost use Rattle.sheet.specs.Layout.{ringCount, sheetOf};
-ghost use Rattle.frame.specs.Framing.{pointCount};
-ghost use Rattle.picker.specs.ImagePick.{imagePickOf};
-ghost use Rattle.picker.specs.PlanePick.{planePickOf};
+ghost use Rattle.answers.specs.Answers.{paper, is_point};
+ghost use Rattle.sheet.specs.Layout.{ring_count, sheet_of};
+ghost use Rattle.frame.specs.Framing.{point_count};
+ghost use Rattle.picker.specs.ImagePick.{image_pick_of};
+ghost use Rattle.picker.specs.PlanePick.{plane_pick_of};
 ghost use Rattle.picker.specs.Stages.{ImagePassed, PlanePassed, closing};
 
 use crate::images::images_wrong;
@@ -15,7 +15,7 @@ use space::{Place, place_at};
 
 // The answer for the point p of the chosen grid point, and 15 where it is too close.
 fn answer_at(is_close: bool, p: Place, best: Candidate) -> Answer
-    ensures { (paper result ≡ closing is_close p best) × (isPoint result ≡ eqb (paper result).status 0) }
+    ensures { (paper result ≡ closing is_close p best) × (is_point result ≡ eqb (paper result).status 0) }
 {
     if is_close {
         Answer::Refused(15)
@@ -27,8 +27,8 @@ fn answer_at(is_close: bool, p: Place, best: Candidate) -> Answer
 // Image pick of what passes the checks down to 10. `moved` has room for just the moved points, and `ends` for
 // the rings' ends.
 fn image_over(s: &[u8], phase: u32, images: &[f64], moved: &mut [f64], ends: &mut [usize]) -> Answer
-    requires { ImagePassed s.now phase images.now × (length moved.old ≡ 2 * pointCount (sheetOf s.now)) × (length ends.old ≡ ringCount s.now) }
-    ensures { (paper result ≡ imagePickOf s.now phase images.now) × (isPoint result ≡ eqb (paper result).status 0) }
+    requires { ImagePassed s.now phase images.now × (length moved.old ≡ 2 * point_count (sheet_of s.now)) × (length ends.old ≡ ring_count s.now) }
+    ensures { (paper result ≡ image_pick_of s.now phase images.now) × (is_point result ≡ eqb (paper result).status 0) }
 {
     match find(s, phase, moved, ends) {
         Found::Refused(number) => Answer::Refused(number),
@@ -41,8 +41,8 @@ fn image_over(s: &[u8], phase: u32, images: &[f64], moved: &mut [f64], ends: &mu
 
 // The same, over small lists of its own.
 fn image_small(s: &[u8], phase: u32, images: &[f64], n: usize, count: usize) -> Answer
-    requires { ImagePassed s.now phase images.now × (n ≡ 2 * pointCount (sheetOf s.now)) × (count ≡ ringCount s.now) × (n ≤ 544) }
-    ensures { (paper result ≡ imagePickOf s.now phase images.now) × (isPoint result ≡ eqb (paper result).status 0) }
+    requires { ImagePassed s.now phase images.now × (n ≡ 2 * point_count (sheet_of s.now)) × (count ≡ ring_count s.now) × (n ≤ 544) }
+    ensures { (paper result ≡ image_pick_of s.now phase images.now) × (is_point result ≡ eqb (paper result).status 0) }
 {
     let mut moved = [0.0f64; sheet::SMALL_NUMBERS];
     let mut ends = [0usize; sheet::MOST_RINGS];
@@ -51,8 +51,8 @@ fn image_small(s: &[u8], phase: u32, images: &[f64], n: usize, count: usize) -> 
 
 // The same, over lists of its own for the points of any sheet.
 fn image_large(s: &[u8], phase: u32, images: &[f64], n: usize, count: usize) -> Answer
-    requires { ImagePassed s.now phase images.now × (n ≡ 2 * pointCount (sheetOf s.now)) × (count ≡ ringCount s.now) }
-    ensures { (paper result ≡ imagePickOf s.now phase images.now) × (isPoint result ≡ eqb (paper result).status 0) }
+    requires { ImagePassed s.now phase images.now × (n ≡ 2 * point_count (sheet_of s.now)) × (count ≡ ring_count s.now) }
+    ensures { (paper result ≡ image_pick_of s.now phase images.now) × (is_point result ≡ eqb (paper result).status 0) }
 {
     let mut moved = [0.0f64; sheet::MOST_NUMBERS];
     let mut ends = [0usize; sheet::MOST_RINGS];
@@ -61,7 +61,7 @@ fn image_large(s: &[u8], phase: u32, images: &[f64], n: usize, count: usize) -> 
 
 // The last image, for the grid point that the chart chooses.
 pub fn image_pick(s: &[u8], phase: u32, images: &[f64]) -> Answer
-    ensures { (paper result ≡ imagePickOf s.now phase images.now) × (isPoint result ≡ eqb (paper result).status 0) }
+    ensures { (paper result ≡ image_pick_of s.now phase images.now) × (is_point result ≡ eqb (paper result).status 0) }
 {
     let refusal = frame::refusal(s, phase);
     if refusal != 0 {
@@ -82,8 +82,8 @@ pub fn image_pick(s: &[u8], phase: u32, images: &[f64]) -> Answer
 // Plane pick of what passes the checks down to 8. `moved` has room for just the moved points, and `ends` for
 // the rings' ends.
 fn plane_over(s: &[u8], moved: &mut [f64], ends: &mut [usize]) -> Answer
-    requires { PlanePassed s.now × (length moved.old ≡ 2 * pointCount (sheetOf s.now)) × (length ends.old ≡ ringCount s.now) }
-    ensures { (paper result ≡ planePickOf s.now) × (isPoint result ≡ eqb (paper result).status 0) }
+    requires { PlanePassed s.now × (length moved.old ≡ 2 * point_count (sheet_of s.now)) × (length ends.old ≡ ring_count s.now) }
+    ensures { (paper result ≡ plane_pick_of s.now) × (is_point result ≡ eqb (paper result).status 0) }
 {
     match find(s, 0, moved, ends) {
         Found::Refused(number) => Answer::Refused(number),
@@ -100,8 +100,8 @@ fn plane_over(s: &[u8], moved: &mut [f64], ends: &mut [usize]) -> Answer
 
 // The same, over small lists of its own.
 fn plane_small(s: &[u8], n: usize, count: usize) -> Answer
-    requires { PlanePassed s.now × (n ≡ 2 * pointCount (sheetOf s.now)) × (count ≡ ringCount s.now) × (n ≤ 544) }
-    ensures { (paper result ≡ planePickOf s.now) × (isPoint result ≡ eqb (paper result).status 0) }
+    requires { PlanePassed s.now × (n ≡ 2 * point_count (sheet_of s.now)) × (count ≡ ring_count s.now) × (n ≤ 544) }
+    ensures { (paper result ≡ plane_pick_of s.now) × (is_point result ≡ eqb (paper result).status 0) }
 {
     let mut moved = [0.0f64; sheet::SMALL_NUMBERS];
     let mut ends = [0usize; sheet::MOST_RINGS];
@@ -110,8 +110,8 @@ fn plane_small(s: &[u8], n: usize, count: usize) -> Answer
 
 // The same, over lists of its own for the points of any sheet.
 fn plane_large(s: &[u8], n: usize, count: usize) -> Answer
-    requires { PlanePassed s.now × (n ≡ 2 * pointCount (sheetOf s.now)) × (count ≡ ringCount s.now) }
-    ensures { (paper result ≡ planePickOf s.now) × (isPoint result ≡ eqb (paper result).status 0) }
+    requires { PlanePassed s.now × (n ≡ 2 * point_count (sheet_of s.now)) × (count ≡ ring_count s.now) }
+    ensures { (paper result ≡ plane_pick_of s.now) × (is_point result ≡ eqb (paper result).status 0) }
 {
     let mut moved = [0.0f64; sheet::MOST_NUMBERS];
     let mut ends = [0usize; sheet::MOST_RINGS];
@@ -120,7 +120,7 @@ fn plane_large(s: &[u8], n: usize, count: usize) -> Answer
 
 // The place on the sheet's plane of the grid point that the chart chooses.
 pub fn plane_pick(s: &[u8]) -> Answer
-    ensures { (paper result ≡ planePickOf s.now) × (isPoint result ≡ eqb (paper result).status 0) }
+    ensures { (paper result ≡ plane_pick_of s.now) × (is_point result ≡ eqb (paper result).status 0) }
 {
     let refusal = sheet::refusal(s);
     if refusal != 0 {

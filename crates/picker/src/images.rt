@@ -1,16 +1,16 @@
 // 10: the host's images.
 ghost use Rattle.std.specs.Prelude.{◌≡◌, ◌*◌, ◌≤◌};
-ghost use Rattle.sheet.specs.Layout.{sheetOf};
-ghost use Rattle.frame.specs.Framing.{pointCount};
-ghost use Rattle.picker.specs.ImagePick.{imagesWrong};
+ghost use Rattle.sheet.specs.Layout.{sheet_of};
+ghost use Rattle.frame.specs.Framing.{point_count};
+ghost use Rattle.picker.specs.ImagePick.{images_wrong};
 
 // 2^30.
 const IMAGE_LIMIT: f64 = 1073741824.0;
 
 // 10: a list that is not 3 x (points + 1) long, or an entry beyond the limit.
 pub(crate) fn images_wrong(s: &[u8], images: &[f64]) -> bool
-    requires { 2 * pointCount (sheetOf s.now) ≤ 4352 }
-    ensures { result ≡ imagesWrong (sheetOf s.now) images.now }
+    requires { 2 * point_count (sheet_of s.now) ≤ 4352 }
+    ensures { result ≡ images_wrong (sheet_of s.now) images.now }
 {
     if images.len() != 3 * (frame::point_numbers(s) / 2 + 1) {
         return true;

@@ -13,21 +13,21 @@ module _ {A : Type 0} (d : A) (l ys : List A) (from x : ℕ) (new : length ys �
   front : length (take from l) ≡ from
   front = length-take-le from l (omega arith)
 
-  pub anew-length : length (anew l ys from x) ≡ length l
-  anew-length = simp (length-append, length-drop) (omega (arith, front))
+  pub anew_length : length (anew l ys from x) ≡ length l
+  anew_length = simp (length-append, length-drop) (omega (arith, front))
 
-  pub anew-before : (k : ℕ) → k < from → get_or (anew l ys from x) k d ≡ get_or l k d
-  anew-before k h = get_or-append (take from l) (ys ++ drop x (drop from l)) d k (omega (arith, front)) ∙ get_or-take from l k d h
+  pub anew_before : (k : ℕ) → k < from → get_or (anew l ys from x) k d ≡ get_or l k d
+  anew_before k h = get_or-append (take from l) (ys ++ drop x (drop from l)) d k (omega (arith, front)) ∙ get_or-take from l k d h
 
-  past-front : (k : ℕ) → get_or (anew l ys from x) (from + k) d ≡ get_or (ys ++ drop x (drop from l)) k d
-  past-front k = ap (λ (n : ℕ). get_or (anew l ys from x) (n + k) d) (sym front) ∙ get_or-append-add (take from l) (ys ++ drop x (drop from l)) k d
+  past_front : (k : ℕ) → get_or (anew l ys from x) (from + k) d ≡ get_or (ys ++ drop x (drop from l)) k d
+  past_front k = ap (λ (n : ℕ). get_or (anew l ys from x) (n + k) d) (sym front) ∙ get_or-append-add (take from l) (ys ++ drop x (drop from l)) k d
 
-  pub anew-in : (k : ℕ) → k < x → get_or (anew l ys from x) (from + k) d ≡ get_or ys k d
-  anew-in k h = past-front k ∙ get_or-append ys (drop x (drop from l)) d k (omega arith)
+  pub anew_in : (k : ℕ) → k < x → get_or (anew l ys from x) (from + k) d ≡ get_or ys k d
+  anew_in k h = past_front k ∙ get_or-append ys (drop x (drop from l)) d k (omega arith)
 
-  pub anew-after : (k : ℕ) → from + x ≤ k → get_or (anew l ys from x) k d ≡ get_or l k d
-  anew-after k h =
+  pub anew_after : (k : ℕ) → from + x ≤ k → get_or (anew l ys from x) k d ≡ get_or l k d
+  anew_after k h =
       let n = k - from - x in
       let e : k ≡ from + (x + n) = omega arith in
       let f : from + (x + n) ≡ k = omega arith in
-      ap (λ (i : ℕ). get_or (anew l ys from x) i d) e ∙ past-front (x + n) ∙ ap (λ (i : ℕ). get_or (ys ++ drop x (drop from l)) (i + n) d) (sym new) ∙ get_or-append-add ys (drop x (drop from l)) n d ∙ get_or-drop x (drop from l) n d ∙ get_or-drop from l (x + n) d ∙ ap (λ (i : ℕ). get_or l i d) f
+      ap (λ (i : ℕ). get_or (anew l ys from x) i d) e ∙ past_front (x + n) ∙ ap (λ (i : ℕ). get_or (ys ++ drop x (drop from l)) (i + n) d) (sym new) ∙ get_or-append-add ys (drop x (drop from l)) n d ∙ get_or-drop x (drop from l) n d ∙ get_or-drop from l (x + n) d ∙ ap (λ (i : ℕ). get_or l i d) f

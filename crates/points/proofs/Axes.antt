@@ -6,24 +6,24 @@ use mathlib.Core.List.{List, foldl, map}
 use Prim.Native.Nat.{ℕ, ◌+◌, ◌*◌, ◌/◌, ◌<◌, ◌≤◌}
 use lib.Ieee.{Float, inf}
 use lib.ListN.{length, get_or, drop}
-use Rattle.leaves.specs.Bounds.{smallerOf, largerOf}
+use Rattle.leaves.specs.Bounds.{smaller_of, larger_of}
 use Rattle.sheet.specs.Content.{point, pairs}
-use Rattle.points.specs.Bounds.{axisOf, least, greatest}
-use Rattle.points.proofs.Pairs.{pairs-step, pairs-end}
+use Rattle.points.specs.Bounds.{axis_of, least, greatest}
+use Rattle.points.proofs.Pairs.{pairs_step, pairs_end}
 
 module _ (step : Float → Float → Float) (axis : ℕ) (xs : List Float) (k : ℕ) (found : Float) where
-  pub fold-step : (d : Float) → 2 * k + 1 < length xs
-      → foldl step found (map (axisOf axis) (pairs (drop (2 * k) xs))) ≡ foldl step (step found (axisOf axis (point (get_or xs (2 * k) d) (get_or xs (2 * k + 1) d)))) (map (axisOf axis) (pairs (drop (2 * (k + 1)) xs)))
-  fold-step d h = rw (pairs-step xs k d h)
+  pub fold_step : (d : Float) → 2 * k + 1 < length xs
+      → foldl step found (map (axis_of axis) (pairs (drop (2 * k) xs))) ≡ foldl step (step found (axis_of axis (point (get_or xs (2 * k) d) (get_or xs (2 * k + 1) d)))) (map (axis_of axis) (pairs (drop (2 * (k + 1)) xs)))
+  fold_step d h = rw (pairs_step xs k d h)
 
-  pub fold-end : length xs / 2 ≤ k → foldl step found (map (axisOf axis) (pairs (drop (2 * k) xs))) ≡ found
-  fold-end h = rw (pairs-end xs k h)
+  pub fold_end : length xs / 2 ≤ k → foldl step found (map (axis_of axis) (pairs (drop (2 * k) xs))) ≡ found
+  fold_end h = rw (pairs_end xs k h)
 
 -- from infinity down, and from -infinity up
-pub least-fold : (xs : List Float) → foldl smallerOf (inf false) xs ≡ least xs
+pub least_fold : (xs : List Float) → foldl smaller_of (inf false) xs ≡ least xs
 unfolding least
-least-fold xs = refl
+least_fold xs = refl
 
-pub greatest-fold : (xs : List Float) → foldl largerOf (inf true) xs ≡ greatest xs
+pub greatest_fold : (xs : List Float) → foldl larger_of (inf true) xs ≡ greatest xs
 unfolding greatest
-greatest-fold xs = refl
+greatest_fold xs = refl

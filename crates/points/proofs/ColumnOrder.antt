@@ -11,36 +11,36 @@ use lib.Ieee.Fits.{and_l, and_r}
 use lib.Ieee.Order.{round_mono}
 use lib.Ieee.Positive.{positive}
 use lib.Ieee.Scale.{finite}
-use Rattle.leaves.specs.Constants.{plusZero, greatestFinite}
-use Rattle.leaves.proofs.Monotone.{div-mono}
-use Rattle.leaves.proofs.Order.{within-finite}
-use Rattle.leaves.proofs.Scaling.{div-of-inf, div-sign, positive-of-lt}
-use Rattle.leaves.proofs.Signs.{round-sign}
+use Rattle.leaves.specs.Constants.{plus_zero, greatest_finite}
+use Rattle.leaves.proofs.Monotone.{float_div_mono}
+use Rattle.leaves.proofs.Order.{within_finite}
+use Rattle.leaves.proofs.Scaling.{div_of_inf, div_sign, positive_of_lt}
+use Rattle.leaves.proofs.Signs.{round_sign}
 use Rattle.leaves.proofs.Values.{sign}
 use Rattle.answers.specs.Limits.{beyond}
-use Rattle.points.specs.Grid.{thirtyTwo, part}
-use Rattle.points.specs.Turns.{keepsOrder}
+use Rattle.points.specs.Grid.{thirty_two, part}
+use Rattle.points.specs.Turns.{keeps_order}
 
 -- ---- the columns
 
-thirty-two : T (positive thirtyTwo)
+thirty_two_lem : T (positive thirty_two)
 unfolding of_bits
-thirty-two = tt
+thirty_two_lem = tt
 
 -- they go up
-pub part-up : (i j : ℕ) → i ≤ j → T (le (part i) (part j))
+pub part_up : (i j : ℕ) → i ≤ j → T (le (part i) (part j))
 unfolding part of_int
-part-up i j h = div-mono binary64 (of_int binary64 (pos i)) (of_int binary64 (pos j)) thirtyTwo thirty-two (round_mono binary64 i 1 j 1 (omega arith) (omega arith) (omega arith))
+part_up i j h = float_div_mono binary64 (of_int binary64 (pos i)) (of_int binary64 (pos j)) thirty_two thirty_two_lem (round_mono binary64 i 1 j 1 (omega arith) (omega arith) (omega arith))
 
 -- and have no sign
-pub part-plain : (i : ℕ) → sign (part i) ≡ false
+pub part_plain : (i : ℕ) → sign (part i) ≡ false
 unfolding part of_int
-part-plain i = go (of_int binary64 (pos i)) (round-sign binary64 false i 1)
+part_plain i = go (of_int binary64 (pos i)) (round_sign binary64 false i 1)
   where
-    go : (x : Float) → sign x ≡ false → sign (div binary64 x thirtyTwo) ≡ false
+    go : (x : Float) → sign x ≡ false → sign (div binary64 x thirty_two) ≡ false
     go nan h = unfold div in refl
-    go (inf s) h = ap sign (div-of-inf binary64 thirtyTwo thirty-two s) ∙ h
-    go (fin s m e) h = div-sign binary64 thirtyTwo thirty-two s m e ∙ h
+    go (inf s) h = ap sign (div_of_inf binary64 thirty_two thirty_two_lem s) ∙ h
+    go (fin s m e) h = div_sign binary64 thirty_two thirty_two_lem s m e ∙ h
 
 -- ---- tests
 
@@ -56,27 +56,27 @@ within limit x h = twice (le (neg limit) x && le x limit) h
     twice true h = tt
     twice false h = h
 
-greatest-finite : T (finite greatestFinite)
+greatest_finite_lem : T (finite greatest_finite)
 unfolding of_bits
-greatest-finite = tt
+greatest_finite_lem = tt
 
-pub finite-of : (x : Float) → T (not (beyond greatestFinite x)) → T (finite x)
-finite-of x h =
-    let w = within greatestFinite x h in
-    within-finite greatestFinite x greatest-finite (and_l (le (neg greatestFinite) x) (le x greatestFinite) w) (and_r (le (neg greatestFinite) x) (le x greatestFinite) w)
+pub finite_of : (x : Float) → T (not (beyond greatest_finite x)) → T (finite x)
+finite_of x h =
+    let w = within greatest_finite x h in
+    within_finite greatest_finite x greatest_finite_lem (and_l (le (neg greatest_finite) x) (le x greatest_finite) w) (and_r (le (neg greatest_finite) x) (le x greatest_finite) w)
 
 -- ---- where the turns go with the columns
 
-module _ (period mid : Float) (ordered : T (keepsOrder period mid)) where
+module _ (period mid : Float) (ordered : T (keeps_order period mid)) where
   pub record Numbers : Type 0 where
     pub above : T (positive period)
     pub centre : T (finite mid)
 
   pub numbers : Numbers
-  unfolding keepsOrder
+  unfolding keeps_order
   numbers =
-      let t = and_r (lt plusZero period) _ ordered in
+      let t = and_r (lt plus_zero period) _ ordered in
       record {
-        above = positive-of-lt period (finite-of period (and_l (not (beyond greatestFinite period)) _ t)) (and_l (lt plusZero period) _ ordered);
-        centre = finite-of mid (and_r (not (beyond greatestFinite period)) _ t);
+        above = positive_of_lt period (finite_of period (and_l (not (beyond greatest_finite period)) _ t)) (and_l (lt plus_zero period) _ ordered);
+        centre = finite_of mid (and_r (not (beyond greatest_finite period)) _ t);
       }

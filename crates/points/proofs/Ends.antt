@@ -6,19 +6,19 @@ use Prim.Native.Nat.{◌*◌, ◌-◌, ◌/◌, ◌<◌}
 use native.Mathlib.Omega.{arith}
 use lib.Ieee.{Float, nan, binary64, sub}
 use lib.ListN.{length, get_or}
-use Rattle.leaves.specs.Bounds.{exceedsOf}
+use Rattle.leaves.specs.Bounds.{exceeds_of}
 use Rattle.leaves.specs.Constants.{pi}
 use Rattle.sheet.specs.Content.{pairs}
-use Rattle.points.specs.Bounds.{goesAround}
-use Rattle.points.proofs.Pairs.{pairs-step, pairs-end}
-use Rattle.points.proofs.Walk.{last-point}
+use Rattle.points.specs.Bounds.{goes_around}
+use Rattle.points.proofs.Pairs.{pairs_step, pairs_end}
+use Rattle.points.proofs.Walk.{last_point}
 
-pub around : (xs : List Float) → 0 < length xs / 2 → goesAround (pairs xs) ≡ exceedsOf (sub binary64 (get_or xs 0 nan) (get_or xs (2 * (length xs / 2) - 2) nan)) pi
-unfolding goesAround
+pub around : (xs : List Float) → 0 < length xs / 2 → goes_around (pairs xs) ≡ exceeds_of (sub binary64 (get_or xs 0 nan) (get_or xs (2 * (length xs / 2) - 2) nan)) pi
+unfolding goes_around
 around xs h =
     let e : 2 * (length xs / 2) - 2 ≡ 2 * (length xs / 2 - 1) = omega arith in
-    rw (pairs-step xs 0 nan (omega arith), last-point xs (omega arith), e)
+    rw (pairs_step xs 0 nan (omega arith), last_point xs (omega arith), e)
 
-pub no-points-around : (xs : List Float) → length xs / 2 ≡ 0 → goesAround (pairs xs) ≡ false
-unfolding goesAround
-no-points-around xs h = ap goesAround (pairs-end xs 0 (omega arith))
+pub no_points_around : (xs : List Float) → length xs / 2 ≡ 0 → goes_around (pairs xs) ≡ false
+unfolding goes_around
+no_points_around xs h = ap goes_around (pairs_end xs 0 (omega arith))

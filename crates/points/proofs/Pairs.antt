@@ -8,14 +8,14 @@ use lib.ListN.{length, get_or, drop, length-drop}
 use lib.Seq.{drop-cons}
 use Rattle.sheet.specs.Content.{point, pairs}
 
-not-lt-two : (n : ℕ) → suc (suc n) < 2 → ⊥
-not-lt-two n h = omega arith
+not_lt_two : (n : ℕ) → suc (suc n) < 2 → ⊥
+not_lt_two n h = omega arith
 
 -- another point stands at 2 * k
-pub pairs-step : (xs : List Float) (k : ℕ) (d : Float) → 2 * k + 1 < length xs
+pub pairs_step : (xs : List Float) (k : ℕ) (d : Float) → 2 * k + 1 < length xs
     → pairs (drop (2 * k) xs) ≡ point (get_or xs (2 * k) d) (get_or xs (2 * k + 1) d) ∷ pairs (drop (2 * (k + 1)) xs)
 unfolding pairs
-pairs-step xs k d h =
+pairs_step xs k d h =
     let e : 2 * (k + 1) ≡ suc (suc (2 * k)) = omega arith in
     let s : 2 * k + 1 ≡ suc (2 * k) = omega arith in
     let h₁ : 2 * k < length xs = omega arith in
@@ -27,7 +27,7 @@ short : (xs : List Float) → length xs < 2 → pairs xs ≡ []
 unfolding pairs
 short [] h = refl
 short (u ∷ []) h = refl
-short (u ∷ v ∷ xs) h = absurd (not-lt-two (length xs) h)
+short (u ∷ v ∷ xs) h = absurd (not_lt_two (length xs) h)
 
-pub pairs-end : (xs : List Float) (k : ℕ) → length xs / 2 ≤ k → pairs (drop (2 * k) xs) ≡ []
-pairs-end xs k h = short (drop (2 * k) xs) (simp length-drop (omega arith))
+pub pairs_end : (xs : List Float) (k : ℕ) → length xs / 2 ≤ k → pairs (drop (2 * k) xs) ≡ []
+pairs_end xs k h = short (drop (2 * k) xs) (simp length-drop (omega arith))

@@ -9,33 +9,33 @@ use lib.Ieee.{Float, binary64, add, sub, div, fits, eq, le}
 use lib.Ieee.Fits.{add-fits, mul-fits}
 use lib.Ieee.Positive.{positive}
 use lib.Ieee.Scale.{finite}
-use Rattle.leaves.specs.Constants.{plusZero}
-use Rattle.leaves.specs.Round.{roundOf}
-use Rattle.leaves.proofs.Order.{eq→le, eq-sym, le-trans, same-nonzero}
-use Rattle.leaves.proofs.Monotone.{add-mono-second, div-mono, mul-mono, sub-mono}
-use Rattle.leaves.proofs.Wholes.{f64-round-mono}
+use Rattle.leaves.specs.Constants.{plus_zero}
+use Rattle.leaves.specs.Round.{round_of}
+use Rattle.leaves.proofs.Order.{eq→le, eq_sym, float_le_trans, same_nonzero}
+use Rattle.leaves.proofs.Monotone.{add_mono_second, float_div_mono, mul_mono, sub_mono}
+use Rattle.leaves.proofs.Wholes.{f64_round_mono}
 use Rattle.points.specs.Turns.{turns}
 
 -- ---- the order
 
 -- the number of turns
-count-mono : (x y period : Float) → T (positive period) → T (le x y) → T (le (roundOf (div binary64 x period)) (roundOf (div binary64 y period)))
-count-mono x y period h l = f64-round-mono (div binary64 x period) (div binary64 y period) (div-mono binary64 x y period h l)
+count_mono : (x y period : Float) → T (positive period) → T (le x y) → T (le (round_of (div binary64 x period)) (round_of (div binary64 y period)))
+count_mono x y period h l = f64_round_mono (div binary64 x period) (div binary64 y period) (float_div_mono binary64 x y period h l)
 
-pub turns-mono : (x y period : Float) → T (positive period) → T (le x y) → T (le (turns x period) (turns y period))
+pub turns_mono : (x y period : Float) → T (positive period) → T (le x y) → T (le (turns x period) (turns y period))
 unfolding turns
-turns-mono x y period h l = mul-mono binary64 (roundOf (div binary64 x period)) (roundOf (div binary64 y period)) period h (count-mono x y period h l)
+turns_mono x y period h l = mul_mono binary64 (round_of (div binary64 x period)) (round_of (div binary64 y period)) period h (count_mono x y period h l)
 
-pub turns-fits : (x period : Float) → T (fits binary64 (turns x period))
+pub turns_fits : (x period : Float) → T (fits binary64 (turns x period))
 unfolding turns
-turns-fits x period = mul-fits binary64 (roundOf (div binary64 x period)) period
+turns_fits x period = mul-fits binary64 (round_of (div binary64 x period)) period
 
 -- a value that moves up with x is the same between two places where it is the same, unless it is a zero there
 squeezed : (move : Float → Float) → ((x y : Float) → T (le x y) → T (le (move x) (move y))) → ((x : Float) → T (fits binary64 (move x)))
-    → (lo x hi : Float) → T (le lo x) → T (le x hi) → T (eq (move lo) (move hi)) → T (not (eq (move lo) plusZero)) → move x ≡ move lo
+    → (lo x hi : Float) → T (le lo x) → T (le x hi) → T (eq (move lo) (move hi)) → T (not (eq (move lo) plus_zero)) → move x ≡ move lo
 squeezed move up fit lo x hi l k e n =
-    same-nonzero binary64 (move lo) (move x) (fit lo) (fit x) n (up lo x l)
-    (le-trans binary64 (move x) (move hi) (move lo) (fit x) (fit hi) (fit lo) (up x hi k) (eq→le (move hi) (move lo) (eq-sym (move lo) (move hi) e)))
+    same_nonzero binary64 (move lo) (move x) (fit lo) (fit x) n (up lo x l)
+    (float_le_trans binary64 (move x) (move hi) (move lo) (fit x) (fit hi) (fit lo) (up x hi k) (eq→le (move hi) (move lo) (eq_sym (move lo) (move hi) e)))
 
 -- ---- copies
 
@@ -43,9 +43,9 @@ squeezed move up fit lo x hi l k e n =
 abbrev pub moved : Float → Float → Float → Float → Float
 moved period mid c u = add binary64 c (turns (sub binary64 u mid) period)
 
-pub moved-squeeze : (period mid c : Float) → T (positive period) → T (finite mid) → T (finite c) → (lo u hi : Float) → T (le lo u) → T (le u hi)
-    → T (eq (moved period mid c lo) (moved period mid c hi)) → T (not (eq (moved period mid c lo) plusZero)) → moved period mid c u ≡ moved period mid c lo
-moved-squeeze period mid c h m g =
+pub moved_squeeze : (period mid c : Float) → T (positive period) → T (finite mid) → T (finite c) → (lo u hi : Float) → T (le lo u) → T (le u hi)
+    → T (eq (moved period mid c lo) (moved period mid c hi)) → T (not (eq (moved period mid c lo) plus_zero)) → moved period mid c u ≡ moved period mid c lo
+moved_squeeze period mid c h m g =
     squeezed (moved period mid c)
-    (λ x y l. add-mono-second binary64 c (turns (sub binary64 x mid) period) (turns (sub binary64 y mid) period) g (turns-mono (sub binary64 x mid) (sub binary64 y mid) period h (sub-mono binary64 x y mid m l)))
+    (λ x y l. add_mono_second binary64 c (turns (sub binary64 x mid) period) (turns (sub binary64 y mid) period) g (turns_mono (sub binary64 x mid) (sub binary64 y mid) period h (sub_mono binary64 x y mid m l)))
     (λ x. add-fits binary64 c (turns (sub binary64 x mid) period))

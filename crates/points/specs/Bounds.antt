@@ -4,37 +4,37 @@ use Rattle.std.specs.Prelude.{Bool, true, false, cond, ℕ, eqb, Float}
 use mathlib.Core.List.{List, [], ◌∷◌, map, foldl}
 use Rattle.std.specs.Float.{inf, binary64}
 use Rattle.std.specs.Float.Ieee.{sub}
-use Rattle.leaves.specs.Bounds.{smallerOf, largerOf, exceedsOf}
+use Rattle.leaves.specs.Bounds.{smaller_of, larger_of, exceeds_of}
 use Rattle.leaves.specs.Constants.{pi}
 use Rattle.sheet.specs.Content.{Point}
 use Rattle.points.specs.declared.bounds.Box.{Box}
 
 unfoldable pub least : List Float → Float
-least xs = foldl smallerOf (inf false) xs
+least xs = foldl smaller_of (inf false) xs
 
 unfoldable pub greatest : List Float → Float
-greatest xs = foldl largerOf (inf true) xs
+greatest xs = foldl larger_of (inf true) xs
 
 -- a point's u at axis 0, its v at any other
-unfoldable pub axisOf : ℕ → Point → Float
-axisOf axis p = cond (eqb axis 0) p.u p.v
+unfoldable pub axis_of : ℕ → Point → Float
+axis_of axis p = cond (eqb axis 0) p.u p.v
 
 -- the four of them
-unfoldable pub boxOf : List Point → Box
-unfolding least greatest axisOf
-boxOf ps = record {
-  least_u = least (map (axisOf 0) ps);
-  least_v = least (map (axisOf 1) ps);
-  greatest_u = greatest (map (axisOf 0) ps);
-  greatest_v = greatest (map (axisOf 1) ps);
+unfoldable pub box_of : List Point → Box
+unfolding least greatest axis_of
+box_of ps = record {
+  least_u = least (map (axis_of 0) ps);
+  least_v = least (map (axis_of 1) ps);
+  greatest_u = greatest (map (axis_of 0) ps);
+  greatest_v = greatest (map (axis_of 1) ps);
 }
 
 -- the last of one and those after it
-unfoldable pub lastOf : {A : Type 0} → A → List A → A
-lastOf p [] = p
-lastOf p (q ∷ qs) = lastOf q qs
+unfoldable pub last_of : {A : Type 0} → A → List A → A
+last_of p [] = p
+last_of p (q ∷ qs) = last_of q qs
 
-unfoldable pub goesAround : List Point → Bool
-unfolding lastOf sub
-goesAround [] = false
-goesAround (p ∷ ps) = exceedsOf (sub binary64 p.u (lastOf p ps).u) pi
+unfoldable pub goes_around : List Point → Bool
+unfolding last_of sub
+goes_around [] = false
+goes_around (p ∷ ps) = exceeds_of (sub binary64 p.u (last_of p ps).u) pi

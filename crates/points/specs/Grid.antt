@@ -6,28 +6,28 @@ use Rattle.std.specs.Float.Ieee.{of_bits, of_int, div}
 use Rattle.sheet.specs.Content.{Point, point}
 
 -- n numbers from i on
-unfoldable pub upFrom : ℕ → ℕ → List ℕ
-upFrom i zero = []
-upFrom i (suc n) = i ∷ upFrom (i + 1) n
+unfoldable pub up_from : ℕ → ℕ → List ℕ
+up_from i zero = []
+up_from i (suc n) = i ∷ up_from (i + 1) n
 
 -- 1 to 31
 unfoldable pub lines : List ℕ
-unfolding upFrom
-lines = upFrom 1 31
+unfolding up_from
+lines = up_from 1 31
 
-abbrev pub thirtyTwo : Float
-thirtyTwo = of_bits binary64 0x4040000000000000
+abbrev pub thirty_two : Float
+thirty_two = of_bits binary64 0x4040000000000000
 
 -- i/32
 unfoldable pub part : ℕ → Float
 unfolding div of_int
-part i = div binary64 (of_int binary64 (pos i)) thirtyTwo
+part i = div binary64 (of_int binary64 (pos i)) thirty_two
 
-unfoldable pub gridPoint : ℕ → ℕ → Point
+unfoldable pub grid_point : ℕ → ℕ → Point
 unfolding part
-gridPoint i j = point (part i) (part j)
+grid_point i j = point (part i) (part j)
 
 -- a value for each grid point, in the grid's order
-unfoldable pub gridOf : {A : Type 0} → (ℕ → ℕ → A) → List A
+unfoldable pub grid_of : {A : Type 0} → (ℕ → ℕ → A) → List A
 unfolding flat_map lines
-gridOf f = flat_map (λ (i : ℕ). map (f i) lines) lines
+grid_of f = flat_map (λ (i : ℕ). map (f i) lines) lines

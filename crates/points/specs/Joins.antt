@@ -3,11 +3,11 @@ use Rattle.std.specs.Prelude.{Bool, true, false, cond, ℕ, zero, suc, length, r
 use mathlib.Core.List.{List, [], ◌∷◌, ◌++◌, flat_map}
 use Rattle.std.specs.Float.{binary64}
 use Rattle.std.specs.Float.Ieee.{sub, div, lt}
-use Rattle.leaves.specs.Constants.{tau, joinLimit}
-use Rattle.leaves.specs.Hypot.{hypotOf}
+use Rattle.leaves.specs.Constants.{tau, join_limit}
+use Rattle.leaves.specs.Hypot.{hypot_of}
 use Rattle.sheet.specs.Content.{Point, Coedge}
-use Rattle.answers.specs.Lists.{anyOf}
-use Rattle.points.specs.Bounds.{lastOf}
+use Rattle.answers.specs.Lists.{any_of}
+use Rattle.points.specs.Bounds.{last_of}
 use Rattle.points.specs.Turns.{turns}
 
 -- ---- "Joins: each coedge's first point to the point before it; each ring's first to its last"
@@ -20,14 +20,14 @@ abbrev pub join : Point → Point → Join
 join a b = record { from = a; to = b }
 
 -- of so many points, whether each is the first
-unfoldable pub firstOnly : ℕ → List Bool
-firstOnly zero = []
-firstOnly (suc n) = true ∷ replicate n false
+unfoldable pub first_only : ℕ → List Bool
+first_only zero = []
+first_only (suc n) = true ∷ replicate n false
 
 -- for each point of a ring, whether it is its coedge's first
 unfoldable pub opens : List Coedge → List Bool
-unfolding flat_map firstOnly
-opens ring = flat_map (λ (c : Coedge). firstOnly (length c.points)) ring
+unfolding flat_map first_only
+opens ring = flat_map (λ (c : Coedge). first_only (length c.points)) ring
 
 -- the joins of the points after the one before them
 unfoldable pub seams : Point → List Bool → List Point → List Join
@@ -38,30 +38,30 @@ seams before (false ∷ os) (p ∷ ps) = seams p os ps
 
 -- a ring's first point has none with a point before it
 unfoldable pub joins : List Bool → List Point → List Join
-unfolding seams lastOf
+unfolding seams last_of
 joins [] ps = []
 joins (o ∷ os) [] = []
-joins (o ∷ os) (p ∷ ps) = seams p os ps ++ join p (lastOf p ps) ∷ []
+joins (o ∷ os) (p ∷ ps) = seams p os ps ++ join p (last_of p ps) ∷ []
 
 -- ---- "Join: difference in u (periodic: less round(difference/TAU) × TAU) over u scale, in v over v scale; hypot of
 -- the two"
 
-unfoldable pub gapU : Bool → Float → Float
+unfoldable pub gap_u : Bool → Float → Float
 unfolding sub turns
-gapU periodic d = cond periodic (sub binary64 d (turns d tau)) d
+gap_u periodic d = cond periodic (sub binary64 d (turns d tau)) d
 
 unfoldable pub gap : Bool → Float → Float → Join → Float
-unfolding gapU div sub
-gap periodic scaleU scaleV j = hypotOf (div binary64 (gapU periodic (sub binary64 j.from.u j.to.u)) scaleU) (div binary64 (sub binary64 j.from.v j.to.v) scaleV)
+unfolding gap_u div sub
+gap periodic scale_u scale_v j = hypot_of (div binary64 (gap_u periodic (sub binary64 j.from.u j.to.u)) scale_u) (div binary64 (sub binary64 j.from.v j.to.v) scale_v)
 
 -- ---- 13: "a join above 1e-4"
 unfoldable pub wide : Bool → Float → Float → Join → Bool
 unfolding lt gap
-wide periodic scaleU scaleV j = lt joinLimit (gap periodic scaleU scaleV j)
+wide periodic scale_u scale_v j = lt join_limit (gap periodic scale_u scale_v j)
 
-unfoldable pub ringOpen : Bool → Float → Float → List Bool → List Point → Bool
-unfolding anyOf wide joins
-ringOpen periodic scaleU scaleV os ps = anyOf (wide periodic scaleU scaleV) (joins os ps)
+unfoldable pub ring_open : Bool → Float → Float → List Bool → List Point → Bool
+unfolding any_of wide joins
+ring_open periodic scale_u scale_v os ps = any_of (wide periodic scale_u scale_v) (joins os ps)
 
 -- `opens` of a ring whose coedges have `more` points each after their first; `left` points follow before the next
 -- coedge's first

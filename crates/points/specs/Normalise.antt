@@ -6,4 +6,4 @@ use Rattle.sheet.specs.Content.{Point, point}
 
 unfoldable pub normal : Float → Float → Float → Float → Point → Point
 unfolding sub div
-normal leastU leastV scaleU scaleV p = point (div binary64 (sub binary64 p.u leastU) scaleU) (div binary64 (sub binary64 p.v leastV) scaleV)
+normal least_u least_v scale_u scale_v p = point (div binary64 (sub binary64 p.u least_u) scale_u) (div binary64 (sub binary64 p.v least_v) scale_v)

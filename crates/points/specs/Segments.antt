@@ -15,14 +15,14 @@ abbrev pub between : {A : Type 0} → A → A → Between A
 between a b = record { a = a; b = b }
 
 -- from a through the points after it, and back to the ring's first
-unfoldable pub segmentsFrom : {A : Type 0} → A → A → List A → List (Between A)
-segmentsFrom first a [] = between a first ∷ []
-segmentsFrom first a (b ∷ ps) = between a b ∷ segmentsFrom first b ps
+unfoldable pub segments_from : {A : Type 0} → A → A → List A → List (Between A)
+segments_from first a [] = between a first ∷ []
+segments_from first a (b ∷ ps) = between a b ∷ segments_from first b ps
 
 unfoldable pub segments : {A : Type 0} → List A → List (Between A)
-unfolding segmentsFrom
+unfolding segments_from
 segments [] = []
-segments (p ∷ ps) = segmentsFrom p p ps
+segments (p ∷ ps) = segments_from p p ps
 
 -- ---- in the chart
 
@@ -33,8 +33,8 @@ abbrev pub segment : Point → Point → Segment
 segment a b = between a b
 
 -- the code's struct (src/segment.rt), as a segment
-abbrev pub segmentOf : declared.Segment → Segment
-segmentOf s = segment (point s.a_u s.a_v) (point s.b_u s.b_v)
+abbrev pub segment_of : declared.Segment → Segment
+segment_of s = segment (point s.a_u s.a_v) (point s.b_u s.b_v)
 
 -- ---- rule 7, periodic: "b.u gains round((a.u − b.u)/P) × P"; rule 8: "b moves as in 7"
 

@@ -3,17 +3,17 @@
 use Rattle.std.specs.Prelude.{Bool, not, ◌&&◌, Float}
 use Rattle.std.specs.Float.{binary64}
 use Rattle.std.specs.Float.Ieee.{mul, div, lt}
-use Rattle.leaves.specs.Constants.{plusZero, greatestFinite}
-use Rattle.leaves.specs.Round.{roundOf}
+use Rattle.leaves.specs.Constants.{plus_zero, greatest_finite}
+use Rattle.leaves.specs.Round.{round_of}
 use Rattle.answers.specs.Limits.{beyond}
 
 unfoldable pub turns : Float → Float → Float
 unfolding mul div
-turns x period = mul binary64 (roundOf (div binary64 x period)) period
+turns x period = mul binary64 (round_of (div binary64 x period)) period
 
 -- ---- how the code tells that the turns go with the order of the grid's columns
 
 -- the period is a number above 0 and mid is a number: the turns go with the order of the columns
-unfoldable pub keepsOrder : Float → Float → Bool
+unfoldable pub keeps_order : Float → Float → Bool
 unfolding lt beyond
-keepsOrder period mid = lt plusZero period && (not (beyond greatestFinite period) && not (beyond greatestFinite mid))
+keeps_order period mid = lt plus_zero period && (not (beyond greatest_finite period) && not (beyond greatest_finite mid))

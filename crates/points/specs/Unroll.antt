@@ -3,13 +3,13 @@ use Rattle.std.specs.Prelude.{Bool, cond, ◌&&◌, List, [], ◌∷◌, map, �
 use Rattle.std.specs.Float.{binary64}
 use Rattle.std.specs.Float.Ieee.{add, sub}
 use Rattle.leaves.specs.Constants.{tau}
-use Rattle.leaves.specs.Wrap.{wrapOf}
+use Rattle.leaves.specs.Wrap.{wrap_of}
 use Rattle.sheet.specs.Content.{Point, point}
 use Rattle.points.specs.Turns.{turns}
 
 -- ---- 1: "Phase 1 only: v becomes ((v + PI + PI) rem TAU) − PI, where rem is %, plus TAU if negative"
 unfoldable pub wrapped : ℕ → Point → Point
-wrapped phase p = point p.u (cond (eqb phase 1) (wrapOf p.v) p.v)
+wrapped phase p = point p.u (cond (eqb phase 1) (wrap_of p.v) p.v)
 
 -- ---- 2: "In file order, each point after a ring's first moves by round((previous − it)/TAU) × TAU: u for kinds 1–4, v
 -- also for 4"
@@ -19,15 +19,15 @@ unfoldable pub near : Float → Float → Float
 unfolding add sub turns
 near previous x = add binary64 x (turns (sub binary64 previous x) tau)
 
-abbrev pub uMoves : ℕ → Bool
-uMoves kind = leb 1 kind && leb kind 4
+abbrev pub u_moves : ℕ → Bool
+u_moves kind = leb 1 kind && leb kind 4
 
-abbrev pub vMoves : ℕ → Bool
-vMoves kind = eqb kind 4
+abbrev pub v_moves : ℕ → Bool
+v_moves kind = eqb kind 4
 
 unfoldable pub moved : ℕ → Point → Point → Point
 unfolding near
-moved kind previous p = point (cond (uMoves kind) (near previous.u p.u) p.u) (cond (vMoves kind) (near previous.v p.v) p.v)
+moved kind previous p = point (cond (u_moves kind) (near previous.u p.u) p.u) (cond (v_moves kind) (near previous.v p.v) p.v)
 
 -- the points after the previous one, which is moved already
 unfoldable pub follow : ℕ → Point → List Point → List Point
@@ -41,6 +41,6 @@ unrolled kind [] = []
 unrolled kind (p ∷ ps) = p ∷ follow kind p ps
 
 -- both rules
-unfoldable pub movedRing : ℕ → ℕ → List Point → List Point
+unfoldable pub moved_ring : ℕ → ℕ → List Point → List Point
 unfolding unrolled wrapped
-movedRing kind phase ps = unrolled kind (map (wrapped phase) ps)
+moved_ring kind phase ps = unrolled kind (map (wrapped phase) ps)

@@ -1,7 +1,7 @@
 // Rule 3: the box, and whether a ring goes around.
 ghost use Rattle.std.specs.Prelude.{◌≡◌};
 ghost use Rattle.sheet.specs.Content.{pairs};
-ghost use Rattle.points.specs.Bounds.{boxOf, goesAround};
+ghost use Rattle.points.specs.Bounds.{box_of, goes_around};
 
 use leaves::constants::PI;
 
@@ -16,7 +16,7 @@ pub struct Box {
 
 // The box of the points; infinities of no points.
 pub fn box_of(points: &[f64]) -> Box
-    ensures { result ≡ boxOf (pairs points.now) }
+    ensures { result ≡ box_of (pairs points.now) }
 {
     let count = points.len() / 2;
     let mut least_u = 1.0 / 0.0;
@@ -44,7 +44,7 @@ pub fn box_of(points: &[f64]) -> Box
 
 // Whether the ring's first and last u differ by over PI.
 pub fn goes_around(ring: &[f64]) -> bool
-    ensures { result ≡ goesAround (pairs ring.now) }
+    ensures { result ≡ goes_around (pairs ring.now) }
 {
     let count = ring.len() / 2;
     if count == 0 {

@@ -1,14 +1,14 @@
 // Rule 4 and check 13: whether a join of the ring is too wide.
 ghost use Rattle.std.specs.Prelude.{◌≡◌, ◌+◌, ◌*◌};
 ghost use Rattle.sheet.specs.Content.{point, pairs};
-ghost use Rattle.points.specs.Joins.{gapU, join, wide, ringOpen, every};
+ghost use Rattle.points.specs.Joins.{gap_u, join, wide, ring_open, every};
 
 use crate::turns::turns;
 use leaves::constants::{JOIN_LIMIT, TAU};
 
 // A difference in u, less whole turns on a periodic chart.
 fn gap_u(periodic: bool, d: f64) -> f64
-    ensures { result ≡ gapU periodic d }
+    ensures { result ≡ gap_u periodic d }
 {
     if periodic { d - turns(d, TAU) } else { d }
 }
@@ -30,7 +30,7 @@ fn is_wide(
 
 // Whether a join of the ring is above the limit. Every coedge has `more` points after its first.
 pub fn is_open(periodic: bool, scale_u: f64, scale_v: f64, more: usize, ring: &[f64]) -> bool
-    ensures { result ≡ ringOpen periodic scale_u scale_v (every more 0 (pairs ring.now)) (pairs ring.now) }
+    ensures { result ≡ ring_open periodic scale_u scale_v (every more 0 (pairs ring.now)) (pairs ring.now) }
 {
     let count = ring.len() / 2;
     if count == 0 {

@@ -1,9 +1,9 @@
 // A ring's points: read from the block, moved in place (rules 1 and 2), normalised into another list (rule 5).
 ghost use Rattle.std.specs.Prelude.{◌≡◌, map, ◌+◌, ◌*◌, ◌≤◌, length, drop};
-ghost use Rattle.sheet.specs.Content.{point, ringPoints, flat, pairs, onPoints};
+ghost use Rattle.sheet.specs.Content.{point, ring_points, flat, pairs, on_points};
 ghost use Rattle.answers.specs.Lists.{over};
-ghost use Rattle.sheet.specs.Layout.{ring, points as pointsAt};
-ghost use Rattle.points.specs.Unroll.{near, wrapped, moved, movedRing};
+ghost use Rattle.sheet.specs.Layout.{ring, points as points_at};
+ghost use Rattle.points.specs.Unroll.{near, wrapped, moved, moved_ring};
 ghost use Rattle.points.specs.Normalise.{normal};
 
 use crate::turns::turns;
@@ -12,7 +12,7 @@ use leaves::constants::TAU;
 // The points of the coedge whose points begin at `at`, over the front of `points`, which has room.
 fn read_coedge(block: &[u8], at: usize, points: &mut [f64])
     requires { (at ≤ 80000) × (length points.old ≡ 34) }
-    ensures { points.new ≡ flat (pointsAt 17 (drop at block.now)) }
+    ensures { points.new ≡ flat (points_at 17 (drop at block.now)) }
 {
     let mut k = 0;
     while k < sheet::COEDGE_POINTS {
@@ -27,7 +27,7 @@ fn read_coedge(block: &[u8], at: usize, points: &mut [f64])
 // The points of a ring's block over the front of `points`, whose tail keeps its contents; a list that
 // is too short for them stays as it is.
 pub fn read(block: &[u8], points: &mut [f64])
-    ensures { points.new ≡ over (flat (ringPoints (ring block.now))) points.old }
+    ensures { points.new ≡ over (flat (ring_points (ring block.now))) points.old }
 {
     let count = sheet::byte_at(block, 0) as usize;
     if points.len() < sheet::COEDGE_NUMBERS * count {
@@ -86,7 +86,7 @@ fn moved_v(kind: u8, previous: f64, v: f64) -> f64
 // Rules 1 and 2, in place: every point wrapped for the phase, and every point after the first moved by
 // whole turns to be near the moved point before it.
 pub fn unroll(kind: u8, phase: u32, points: &mut [f64])
-    ensures { points.new ≡ onPoints (movedRing kind phase) points.old }
+    ensures { points.new ≡ on_points (moved_ring kind phase) points.old }
 {
     let count = points.len() / 2;
     if count == 0 {

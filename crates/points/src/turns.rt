@@ -1,21 +1,21 @@
 // Whole turns, as rules 2, 4, 7 and 8 take them, and when they go with the order of what is turned.
 ghost use Rattle.std.specs.Prelude.{◌≡◌, not};
-ghost use Rattle.leaves.specs.Constants.{greatestFinite};
+ghost use Rattle.leaves.specs.Constants.{greatest_finite};
 ghost use Rattle.answers.specs.Limits.{beyond};
-ghost use Rattle.points.specs.Turns.{keepsOrder, turns as turnsOf};
+ghost use Rattle.points.specs.Turns.{keeps_order, turns as turns_of};
 
 use leaves::constants::GREATEST_FINITE;
 
 // The whole turns nearest to x: round(x / period) x period.
 pub fn turns(x: f64, period: f64) -> f64
-    ensures { result ≡ turnsOf x period }
+    ensures { result ≡ turns_of x period }
 {
     leaves::round(x / period) * period
 }
 
 // Whether x is finite, and no NaN.
 pub fn is_number(x: f64) -> bool
-    ensures { result ≡ not (beyond greatestFinite x) }
+    ensures { result ≡ not (beyond greatest_finite x) }
 {
     !answers::is_beyond(GREATEST_FINITE, x)
 }
@@ -23,7 +23,7 @@ pub fn is_number(x: f64) -> bool
 // Whether the turns between mid and a column go with the order of the columns: the period is a number
 // above 0, and mid is a number.
 pub fn keeps_order(period: f64, mid: f64) -> bool
-    ensures { result ≡ keepsOrder period mid }
+    ensures { result ≡ keeps_order period mid }
 {
     if 0.0 < period {
         if is_number(period) {

@@ -10,68 +10,68 @@ use borrow.Author.Tests.{ltb-false}
 use lib.Dec.{eqb, ltb}
 use lib.Ieee.{Float, binary64, sub, le}
 use lib.ListN.{length}
-use Rattle.leaves.specs.Constants.{plusZero, micro}
+use Rattle.leaves.specs.Constants.{plus_zero, micro}
 use Rattle.answers.specs.Outcome.{check, first, refused, settled, OneOf}
 use Rattle.answers.proofs.AnyOf.{neither}
-use Rattle.answers.proofs.FirstCheck.{first-holds}
-use Rattle.answers.proofs.Settled.{settled-here, settled-later, settled-empty, settled-zeros, settled-holds}
-use Rattle.answers.specs.Answers.{valued, middlePaper}
+use Rattle.answers.proofs.FirstCheck.{first_holds}
+use Rattle.answers.proofs.Settled.{settled_here, settled_later, settled_empty, settled_zeros, settled_holds}
+use Rattle.answers.specs.Answers.{valued, middle_paper}
 use Rattle.answers.specs.declared.outcomes.MiddleAnswer.TheVariants.{Refused}
-use Rattle.answers.proofs.Papers.{paper-no-middle}
+use Rattle.answers.proofs.Papers.{paper_no_middle}
 use Rattle.points.specs.Bounds.{least, greatest}
-use Rattle.round_fallback.specs.Cylinder.{roundWrong, heightsWrong, cornerAngles, unclear, middleAngle, middleHeight, middleAmong, cylinderPointOf}
+use Rattle.round_fallback.specs.Cylinder.{round_wrong, heights_wrong, corner_angles, unclear, middle_angle, middle_height, middle_among, cylinder_point_of}
 
 module _ (heights angles : List Float) where
   -- ---- the answer, check by check
 
-  pub round-refused : roundWrong heights angles ≡ true → middlePaper (Refused 16) ≡ cylinderPointOf heights angles
-  unfolding cylinderPointOf
-  round-refused e = paper-no-middle 16 ∙ sym (settled-here 16 (omega arith) (roundWrong heights angles) (check 22 (heightsWrong heights angles) ∷ []) (middleAmong heights (cornerAngles angles)) e)
+  pub round_refused : round_wrong heights angles ≡ true → middle_paper (Refused 16) ≡ cylinder_point_of heights angles
+  unfolding cylinder_point_of
+  round_refused e = paper_no_middle 16 ∙ sym (settled_here 16 (omega arith) (round_wrong heights angles) (check 22 (heights_wrong heights angles) ∷ []) (middle_among heights (corner_angles angles)) e)
 
-  module _ (passed : roundWrong heights angles ≡ false) where
-    past-16 : cylinderPointOf heights angles ≡ settled (first (check 22 (heightsWrong heights angles) ∷ [])) (middleAmong heights (cornerAngles angles))
-    unfolding cylinderPointOf
-    past-16 = settled-later 16 (roundWrong heights angles) (check 22 (heightsWrong heights angles) ∷ []) (middleAmong heights (cornerAngles angles)) passed
+  module _ (passed : round_wrong heights angles ≡ false) where
+    past_16 : cylinder_point_of heights angles ≡ settled (first (check 22 (heights_wrong heights angles) ∷ [])) (middle_among heights (corner_angles angles))
+    unfolding cylinder_point_of
+    past_16 = settled_later 16 (round_wrong heights angles) (check 22 (heights_wrong heights angles) ∷ []) (middle_among heights (corner_angles angles)) passed
 
-    pub heights-refused : heightsWrong heights angles ≡ true → middlePaper (Refused 22) ≡ cylinderPointOf heights angles
-    heights-refused e = paper-no-middle 22 ∙ sym (past-16 ∙ settled-here 22 (omega arith) (heightsWrong heights angles) [] (middleAmong heights (cornerAngles angles)) e)
+    pub heights_refused : heights_wrong heights angles ≡ true → middle_paper (Refused 22) ≡ cylinder_point_of heights angles
+    heights_refused e = paper_no_middle 22 ∙ sym (past_16 ∙ settled_here 22 (omega arith) (heights_wrong heights angles) [] (middle_among heights (corner_angles angles)) e)
 
-    pub round-passed : heightsWrong heights angles ≡ false → middleAmong heights (cornerAngles angles) ≡ cylinderPointOf heights angles
-    round-passed e = sym (past-16 ∙ settled-later 22 (heightsWrong heights angles) [] (middleAmong heights (cornerAngles angles)) e ∙ settled-empty (middleAmong heights (cornerAngles angles)))
+    pub round_passed : heights_wrong heights angles ≡ false → middle_among heights (corner_angles angles) ≡ cylinder_point_of heights angles
+    round_passed e = sym (past_16 ∙ settled_later 22 (heights_wrong heights angles) [] (middle_among heights (corner_angles angles)) e ∙ settled_empty (middle_among heights (corner_angles angles)))
 
   -- where 22 does not hold
-  pub few-angles : heightsWrong heights angles ≡ false → length angles ≤ 256
-  unfolding heightsWrong
-  few-angles e =
+  pub few_angles : heights_wrong heights angles ≡ false → length angles ≤ 256
+  unfolding heights_wrong
+  few_angles e =
       let none = eqb (length heights) 0 in
       let many = ltb 256 (length heights) in
-      let manyAngles = ltb 256 (length angles) in
-      ltb-false 256 (length angles) (neither (none || many) manyAngles (neither ((none || many) || manyAngles) (le (sub binary64 (greatest heights) (least heights)) micro) e).0).1
+      let many_angles = ltb 256 (length angles) in
+      ltb-false 256 (length angles) (neither (none || many) many_angles (neither ((none || many) || many_angles) (le (sub binary64 (greatest heights) (least heights)) micro) e).0).1
 
   -- ---- any refusal
 
-  middle-told : ((middleAmong heights (cornerAngles angles)).status ≡ 0 → ⊥) → middleAmong heights (cornerAngles angles) ≡ refused (middleAmong heights (cornerAngles angles)).status
-  unfolding middleAmong
-  middle-told = settled-zeros (first (check 23 (unclear (cornerAngles angles)) ∷ [])) (valued (middleAngle (cornerAngles angles)) (middleHeight heights) plusZero) (λ h. absurd (h refl))
+  middle_told : ((middle_among heights (corner_angles angles)).status ≡ 0 → ⊥) → middle_among heights (corner_angles angles) ≡ refused (middle_among heights (corner_angles angles)).status
+  unfolding middle_among
+  middle_told = settled_zeros (first (check 23 (unclear (corner_angles angles)) ∷ [])) (valued (middle_angle (corner_angles angles)) (middle_height heights) plus_zero) (λ h. absurd (h refl))
 
   -- "With a refusal all other result numbers are 0"
-  pub cylinder-refused : ((cylinderPointOf heights angles).status ≡ 0 → ⊥) → cylinderPointOf heights angles ≡ refused (cylinderPointOf heights angles).status
-  unfolding cylinderPointOf
-  cylinder-refused = settled-zeros (first (check 16 (roundWrong heights angles) ∷ check 22 (heightsWrong heights angles) ∷ [])) (middleAmong heights (cornerAngles angles)) middle-told
+  pub cylinder_refused : ((cylinder_point_of heights angles).status ≡ 0 → ⊥) → cylinder_point_of heights angles ≡ refused (cylinder_point_of heights angles).status
+  unfolding cylinder_point_of
+  cylinder_refused = settled_zeros (first (check 16 (round_wrong heights angles) ∷ check 22 (heights_wrong heights angles) ∷ [])) (middle_among heights (corner_angles angles)) middle_told
 
   -- an answer, and the numbers of the table
   abbrev statuses : List ℕ
   statuses = 0 ∷ 16 ∷ 22 ∷ 23 ∷ []
 
   -- the status is one of them
-  middle-status : OneOf statuses (middleAmong heights (cornerAngles angles)).status
-  unfolding middleAmong
-  middle-status =
-      settled-holds (OneOf statuses) (first (check 23 (unclear (cornerAngles angles)) ∷ [])) (valued (middleAngle (cornerAngles angles)) (middleHeight heights) plusZero)
-      (first-holds (OneOf statuses) (inl refl) (check 23 (unclear (cornerAngles angles)) ∷ []) (inr (inr (inr (inl refl))), tt)) (inl refl)
+  middle_status : OneOf statuses (middle_among heights (corner_angles angles)).status
+  unfolding middle_among
+  middle_status =
+      settled_holds (OneOf statuses) (first (check 23 (unclear (corner_angles angles)) ∷ [])) (valued (middle_angle (corner_angles angles)) (middle_height heights) plus_zero)
+      (first_holds (OneOf statuses) (inl refl) (check 23 (unclear (corner_angles angles)) ∷ []) (inr (inr (inr (inl refl))), tt)) (inl refl)
 
-  pub cylinder-status : OneOf statuses (cylinderPointOf heights angles).status
-  unfolding cylinderPointOf
-  cylinder-status =
-      settled-holds (OneOf statuses) (first (check 16 (roundWrong heights angles) ∷ check 22 (heightsWrong heights angles) ∷ [])) (middleAmong heights (cornerAngles angles))
-      (first-holds (OneOf statuses) (inl refl) (check 16 (roundWrong heights angles) ∷ check 22 (heightsWrong heights angles) ∷ []) (inr (inl refl), (inr (inr (inl refl)), tt))) middle-status
+  pub cylinder_status : OneOf statuses (cylinder_point_of heights angles).status
+  unfolding cylinder_point_of
+  cylinder_status =
+      settled_holds (OneOf statuses) (first (check 16 (round_wrong heights angles) ∷ check 22 (heights_wrong heights angles) ∷ [])) (middle_among heights (corner_angles angles))
+      (first_holds (OneOf statuses) (inl refl) (check 16 (round_wrong heights angles) ∷ check 22 (heights_wrong heights angles) ∷ []) (inr (inl refl), (inr (inr (inl refl)), tt))) middle_status

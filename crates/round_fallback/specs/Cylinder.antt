@@ -5,11 +5,11 @@ use Rattle.std.specs.Prelude.{Bool, not, cond, ◌&&◌, ◌||◌, ℕ, eqb, ltb
 use mathlib.Core.List.{List, [], ◌∷◌, map, foldl}
 use Rattle.std.specs.Float.{binary64}
 use Rattle.std.specs.Float.Ieee.{add, sub, div, neg, lt, le, eq}
-use Rattle.leaves.specs.Constants.{plusZero, pi, tau, micro, one}
-use Rattle.leaves.specs.Wrap.{remTau}
+use Rattle.leaves.specs.Constants.{plus_zero, pi, tau, micro, one}
+use Rattle.leaves.specs.Wrap.{rem_tau}
 use Rattle.answers.specs.Outcome.{check, first, Numbers, settled}
-use Rattle.answers.specs.Limits.{beyond, argumentLimit}
-use Rattle.answers.specs.Lists.{anyOf}
+use Rattle.answers.specs.Limits.{beyond, argument_limit}
+use Rattle.answers.specs.Lists.{any_of}
 use Rattle.points.specs.Bounds.{least, greatest}
 use Rattle.points.specs.Segments.{two, middle, Between, segments}
 use Rattle.answers.specs.Answers.{valued}
@@ -17,18 +17,18 @@ use Rattle.round_fallback.specs.declared.cylinder.Stretch.{Stretch}
 
 -- ---- 16 and 22
 
-unfoldable pub roundWrong : List Float → List Float → Bool
-roundWrong heights angles = anyOf (beyond argumentLimit) heights || anyOf (beyond argumentLimit) angles
+unfoldable pub round_wrong : List Float → List Float → Bool
+round_wrong heights angles = any_of (beyond argument_limit) heights || any_of (beyond argument_limit) angles
 
-abbrev pub mostOfEither : ℕ
-mostOfEither = 256
+abbrev pub most_of_either : ℕ
+most_of_either = 256
 
-unfoldable pub heightsWrong : List Float → List Float → Bool
+unfoldable pub heights_wrong : List Float → List Float → Bool
 unfolding le sub
-heightsWrong heights angles =
+heights_wrong heights angles =
     eqb (length heights) 0
-    || ltb mostOfEither (length heights)
-    || ltb mostOfEither (length angles)
+    || ltb most_of_either (length heights)
+    || ltb most_of_either (length angles)
     || le (sub binary64 (greatest heights) (least heights)) micro
 
 -- ---- the angles: `rem_euclid` by TAU, `sort_by(f64::total_cmp)`, `dedup_by`
@@ -39,79 +39,79 @@ unfolding lt eq div
 precedes a b = lt a b || (eq a b && lt (div binary64 one a) (div binary64 one b))
 
 -- x before the first that it precedes, else last
-unfoldable pub insertOf : Float → List Float → List Float
+unfoldable pub insert_of : Float → List Float → List Float
 unfolding precedes
-insertOf x [] = x ∷ []
-insertOf x (y ∷ ys) = cond (precedes x y) (x ∷ y ∷ ys) (y ∷ insertOf x ys)
+insert_of x [] = x ∷ []
+insert_of x (y ∷ ys) = cond (precedes x y) (x ∷ y ∷ ys) (y ∷ insert_of x ys)
 
 -- one after the other put in its place
-unfoldable pub sortedOf : List Float → List Float
-unfolding insertOf
-sortedOf xs = foldl (λ (ys : List Float) (x : Float). insertOf x ys) [] xs
+unfoldable pub sorted_of : List Float → List Float
+unfolding insert_of
+sorted_of xs = foldl (λ (ys : List Float) (x : Float). insert_of x ys) [] xs
 
 -- "(*a - *b).abs() < 1e-6"
-unfoldable pub isNear : Float → Float → Bool
+unfoldable pub is_near : Float → Float → Bool
 unfolding lt sub neg
-isNear a b = lt (sub binary64 a b) micro && lt (neg (sub binary64 a b)) micro
+is_near a b = lt (sub binary64 a b) micro && lt (neg (sub binary64 a b)) micro
 
 -- those that are not near the last one kept
-unfoldable pub keptAfter : Float → List Float → List Float
-unfolding isNear
-keptAfter last [] = []
-keptAfter last (x ∷ xs) = cond (isNear x last) (keptAfter last xs) (x ∷ keptAfter x xs)
+unfoldable pub kept_after : Float → List Float → List Float
+unfolding is_near
+kept_after last [] = []
+kept_after last (x ∷ xs) = cond (is_near x last) (kept_after last xs) (x ∷ kept_after x xs)
 
-unfoldable pub keptOf : List Float → List Float
-unfolding keptAfter
-keptOf [] = []
-keptOf (x ∷ xs) = x ∷ keptAfter x xs
+unfoldable pub kept_of : List Float → List Float
+unfolding kept_after
+kept_of [] = []
+kept_of (x ∷ xs) = x ∷ kept_after x xs
 
-unfoldable pub cornerAngles : List Float → List Float
-unfolding keptOf sortedOf
-cornerAngles angles = keptOf (sortedOf (map remTau angles))
+unfoldable pub corner_angles : List Float → List Float
+unfolding kept_of sorted_of
+corner_angles angles = kept_of (sorted_of (map rem_tau angles))
 
 -- ---- "The empty stretches between neighbouring corner angles, going round", and the widest, the first of equal ones
 
 -- of n angles, from one to the next
-unfoldable pub gapOf : ℕ → Between Float → Float
+unfoldable pub gap_of : ℕ → Between Float → Float
 unfolding sub
-gapOf n s = cond (eqb n 1) tau (remTau (sub binary64 s.b s.a))
+gap_of n s = cond (eqb n 1) tau (rem_tau (sub binary64 s.b s.a))
 
 abbrev pub stretch : Float → Float → Stretch
 stretch gap from = record { gap = gap; from = from }
 
 unfoldable pub wider : ℕ → Stretch → Between Float → Stretch
-unfolding lt gapOf
-wider n best s = cond (lt best.gap (gapOf n s)) (stretch (gapOf n s) s.a) best
+unfolding lt gap_of
+wider n best s = cond (lt best.gap (gap_of n s)) (stretch (gap_of n s) s.a) best
 
-unfoldable pub widestOf : List Float → Stretch
+unfoldable pub widest_of : List Float → Stretch
 unfolding wider
-widestOf angles = foldl (wider (length angles)) (stretch plusZero plusZero) (segments angles)
+widest_of angles = foldl (wider (length angles)) (stretch plus_zero plus_zero) (segments angles)
 
 -- ---- 23, and the answer: "the angle opposite the seam of a face that goes all the way round, or the middle of the
 -- shorter way between its two sides"
 
 -- neither a single corner angle, nor an empty stretch past a half turn
 unfoldable pub unclear : List Float → Bool
-unfolding lt add widestOf
-unclear angles = not (eqb (length angles) 1 || lt (add binary64 pi micro) (widestOf angles).gap)
+unfolding lt add widest_of
+unclear angles = not (eqb (length angles) 1 || lt (add binary64 pi micro) (widest_of angles).gap)
 
 unfoldable pub opposite : Stretch → Float
 unfolding add sub div
 opposite w = add binary64 (add binary64 w.from w.gap) (div binary64 (sub binary64 tau w.gap) two)
 
-unfoldable pub middleAngle : List Float → Float
-unfolding add opposite widestOf
-middleAngle angles = cond (eqb (length angles) 1) (add binary64 (widestOf angles).from pi) (opposite (widestOf angles))
+unfoldable pub middle_angle : List Float → Float
+unfolding add opposite widest_of
+middle_angle angles = cond (eqb (length angles) 1) (add binary64 (widest_of angles).from pi) (opposite (widest_of angles))
 
-unfoldable pub middleHeight : List Float → Float
+unfoldable pub middle_height : List Float → Float
 unfolding add div
-middleHeight heights = middle (least heights) (greatest heights)
+middle_height heights = middle (least heights) (greatest heights)
 
 -- of the heights and the corner angles
-unfoldable pub middleAmong : List Float → List Float → Numbers
-unfolding unclear middleAngle middleHeight
-middleAmong heights angles = settled (first (check 23 (unclear angles) ∷ [])) (valued (middleAngle angles) (middleHeight heights) plusZero)
+unfoldable pub middle_among : List Float → List Float → Numbers
+unfolding unclear middle_angle middle_height
+middle_among heights angles = settled (first (check 23 (unclear angles) ∷ [])) (valued (middle_angle angles) (middle_height heights) plus_zero)
 
-unfoldable pub cylinderPointOf : List Float → List Float → Numbers
-unfolding roundWrong heightsWrong middleAmong cornerAngles
-cylinderPointOf heights angles = settled (first (check 16 (roundWrong heights angles) ∷ check 22 (heightsWrong heights angles) ∷ [])) (middleAmong heights (cornerAngles angles))
+unfoldable pub cylinder_point_of : List Float → List Float → Numbers
+unfolding round_wrong heights_wrong middle_among corner_angles
+cylinder_point_of heights angles = settled (first (check 16 (round_wrong heights angles) ∷ check 22 (heights_wrong heights angles) ∷ [])) (middle_among heights (corner_angles angles))

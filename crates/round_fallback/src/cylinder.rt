@@ -1,10 +1,10 @@
 // The round fallback of faces.rs, up to the middle angle and height.
 ghost use Rattle.std.specs.Prelude.{◌∷◌, ◌++◌, map, ◌≡◌, ◌-◌, ◌≤◌, ◌<◌, eqb, length, take, drop};
-ghost use Rattle.leaves.specs.Wrap.{remTau};
+ghost use Rattle.leaves.specs.Wrap.{rem_tau};
 ghost use Rattle.points.specs.Bounds.{least, greatest};
 ghost use Rattle.points.specs.Segments.{between};
-ghost use Rattle.answers.specs.Answers.{middlePaper, isMiddle};
-ghost use Rattle.round_fallback.specs.Cylinder.{roundWrong, heightsWrong, precedes as precedesOf, insertOf, sortedOf, isNear, keptOf, cornerAngles, gapOf, wider as widerOf, widestOf, opposite as oppositeOf, middleHeight, middleAmong, cylinderPointOf};
+ghost use Rattle.answers.specs.Answers.{middle_paper, is_middle};
+ghost use Rattle.round_fallback.specs.Cylinder.{round_wrong, heights_wrong, precedes as precedes_of, insert_of, sorted_of, is_near, kept_of, corner_angles, gap_of, wider as wider_of, widest_of, opposite as opposite_of, middle_height, middle_among, cylinder_point_of};
 
 use answers::{ARGUMENT_LIMIT, MiddleAnswer, any_number_beyond};
 use leaves::constants::{MICRO, PI, TAU};
@@ -28,7 +28,7 @@ pub struct Extent {
 
 // 16: a number of either list is beyond 2^20.
 fn round_wrong(heights: &[f64], angles: &[f64]) -> bool
-    ensures { result ≡ roundWrong heights.now angles.now }
+    ensures { result ≡ round_wrong heights.now angles.now }
 {
     if any_number_beyond(ARGUMENT_LIMIT, heights) {
         true
@@ -58,7 +58,7 @@ fn extent_of(list: &[f64]) -> Extent
 
 // 22: no heights, over 256 of either, or a spread of at most 1e-6.
 fn heights_wrong(heights: &[f64], angles: &[f64]) -> bool
-    ensures { result ≡ heightsWrong heights.now angles.now }
+    ensures { result ≡ heights_wrong heights.now angles.now }
 {
     if heights.len() == 0 {
         true
@@ -74,7 +74,7 @@ fn heights_wrong(heights: &[f64], angles: &[f64]) -> bool
 
 // The total order: less, or -0 before +0. One over a zero tells its sign.
 fn precedes(a: f64, b: f64) -> bool
-    ensures { result ≡ precedesOf a b }
+    ensures { result ≡ precedes_of a b }
 {
     if a < b {
         true
@@ -87,7 +87,7 @@ fn precedes(a: f64, b: f64) -> bool
 
 // Where x goes among the numbers: before the first that it precedes.
 fn place_of(x: f64, list: &[f64]) -> usize
-    ensures { (result ≤ length list.now) × (insertOf x list.now ≡ take result list.now ++ x ∷ drop result list.now) }
+    ensures { (result ≤ length list.now) × (insert_of x list.now ≡ take result list.now ++ x ∷ drop result list.now) }
 {
     let mut k = 0;
     while k < list.len() {
@@ -102,7 +102,7 @@ fn place_of(x: f64, list: &[f64]) -> usize
 // x in its place among the numbers before the last one, whose place is free.
 fn insert(x: f64, list: &mut [f64])
     requires { 0 < length list.old }
-    ensures { list.new ≡ insertOf x (take (length list.old - 1) list.old) }
+    ensures { list.new ≡ insert_of x (take (length list.old - 1) list.old) }
 {
     let last = list.len() - 1;
     let at = place_of(x, &list[..last]);
@@ -117,7 +117,7 @@ fn insert(x: f64, list: &mut [f64])
 // The angles, each reduced to a turn, in order, over a list that has room for just them.
 fn sort(angles: &[f64], sorted: &mut [f64])
     requires { length sorted.old ≡ length angles.now }
-    ensures { sorted.new ≡ sortedOf (map remTau angles.now) }
+    ensures { sorted.new ≡ sorted_of (map rem_tau angles.now) }
 {
     let mut k = 0;
     while k < angles.len() {
@@ -129,7 +129,7 @@ fn sort(angles: &[f64], sorted: &mut [f64])
 
 // Whether two angles are nearer than 1e-6.
 fn is_near(a: f64, b: f64) -> bool
-    ensures { result ≡ isNear a b }
+    ensures { result ≡ is_near a b }
 {
     let d = a - b;
     if d < MICRO { -d < MICRO } else { false }
@@ -138,7 +138,7 @@ fn is_near(a: f64, b: f64) -> bool
 // Those that are not near the last one kept, over the front of a list that has room; how many they are.
 fn keep(sorted: &[f64], kept: &mut [f64]) -> usize
     requires { length kept.old ≡ length sorted.now }
-    ensures { (result ≤ length kept.new) × (take result kept.new ≡ keptOf sorted.now) }
+    ensures { (result ≤ length kept.new) × (take result kept.new ≡ kept_of sorted.now) }
 {
     if sorted.len() == 0 {
         return 0;
@@ -161,7 +161,7 @@ fn keep(sorted: &[f64], kept: &mut [f64]) -> usize
 
 // The stretch from one of `count` corner angles to the next.
 fn gap(count: usize, from: f64, to: f64) -> f64
-    ensures { result ≡ gapOf count (between from to) }
+    ensures { result ≡ gap_of count (between from to) }
 {
     if count == 1 {
         TAU
@@ -171,7 +171,7 @@ fn gap(count: usize, from: f64, to: f64) -> f64
 }
 
 fn wider(count: usize, best: Stretch, from: f64, to: f64) -> Stretch
-    ensures { result ≡ widerOf count best (between from to) }
+    ensures { result ≡ wider_of count best (between from to) }
 {
     let next = gap(count, from, to);
     if best.gap < next {
@@ -186,7 +186,7 @@ fn wider(count: usize, best: Stretch, from: f64, to: f64) -> Stretch
 
 // The widest empty stretch, the first of equal ones.
 fn widest(angles: &[f64]) -> Stretch
-    ensures { result ≡ widestOf angles.now }
+    ensures { result ≡ widest_of angles.now }
 {
     let count = angles.len();
     let mut best = Stretch {
@@ -210,13 +210,13 @@ fn widest(angles: &[f64]) -> Stretch
 
 // The middle of what the stretch leaves.
 fn opposite(w: Stretch) -> f64
-    ensures { result ≡ oppositeOf w }
+    ensures { result ≡ opposite_of w }
 {
     w.from + w.gap + (TAU - w.gap) / 2.0
 }
 
 fn middle_height(heights: &[f64]) -> f64
-    ensures { result ≡ middleHeight heights.now }
+    ensures { result ≡ middle_height heights.now }
 {
     let e = extent_of(heights);
     (e.lowest + e.highest) / 2.0
@@ -224,7 +224,7 @@ fn middle_height(heights: &[f64]) -> f64
 
 // The answer of the heights and the corner angles; 23: the middle is unclear.
 fn middle(heights: &[f64], angles: &[f64]) -> MiddleAnswer
-    ensures { (middlePaper result ≡ middleAmong heights.now angles.now) × (isMiddle result ≡ eqb (middlePaper result).status 0) }
+    ensures { (middle_paper result ≡ middle_among heights.now angles.now) × (is_middle result ≡ eqb (middle_paper result).status 0) }
 {
     let w = widest(angles);
     if angles.len() == 1 {
@@ -244,7 +244,7 @@ fn middle_over(
     kept: &mut [f64],
 ) -> MiddleAnswer
     requires { (length sorted.old ≡ length angles.now) × (length kept.old ≡ length angles.now) }
-    ensures { (middlePaper result ≡ middleAmong heights.now (cornerAngles angles.now)) × (isMiddle result ≡ eqb (middlePaper result).status 0) }
+    ensures { (middle_paper result ≡ middle_among heights.now (corner_angles angles.now)) × (is_middle result ≡ eqb (middle_paper result).status 0) }
 {
     sort(angles, sorted);
     let count = keep(sorted, kept);
@@ -253,7 +253,7 @@ fn middle_over(
 
 // The middle angle and height of a round face, from the heights and angles of its corners.
 pub fn cylinder_point(heights: &[f64], angles: &[f64]) -> MiddleAnswer
-    ensures { (middlePaper result ≡ cylinderPointOf heights.now angles.now) × (isMiddle result ≡ eqb (middlePaper result).status 0) }
+    ensures { (middle_paper result ≡ cylinder_point_of heights.now angles.now) × (is_middle result ≡ eqb (middle_paper result).status 0) }
 {
     if round_wrong(heights, angles) {
         return MiddleAnswer::Refused(16);

@@ -1,5 +1,5 @@
 -- A copy serves between two columns where it is the same. The grid's columns go up, a segment's turns go up with them,
--- and an end that is the same at two columns, and not at 0, is the same at every column between (`moved-squeeze` of the
+-- and an end that is the same at two columns, and not at 0, is the same at every column between (`moved_squeeze` of the
 -- rings' laws).
 use mathlib.Core.Path.{◌≡◌, ap, ap₂, ◌∙◌}
 use mathlib.Core.Bool.{true, not}
@@ -9,22 +9,22 @@ use lib.Ieee.{Float, eq}
 use lib.Ieee.Fits.{and_l, and_r}
 use lib.Ieee.Positive.{positive}
 use lib.Ieee.Scale.{finite}
-use Rattle.leaves.specs.Constants.{plusZero, greatestFinite}
+use Rattle.leaves.specs.Constants.{plus_zero, greatest_finite}
 use Rattle.answers.specs.Limits.{beyond}
 use Rattle.sheet.specs.Content.{point}
 use Rattle.points.specs.Segments.{middle, segment}
 use Rattle.points.specs.Grid.{part}
-use Rattle.points.specs.Turns.{keepsOrder}
-use Rattle.points.proofs.ColumnOrder.{finite-of, holds, numbers as order-numbers, part-up}
-use Rattle.points.proofs.WholeTurns.{moved-squeeze}
-use Rattle.search.specs.Copies.{endsAt, sameEnds, regular, Serves}
-use Rattle.clearance.specs.Clearance.{shiftedTo}
+use Rattle.points.specs.Turns.{keeps_order}
+use Rattle.points.proofs.ColumnOrder.{finite_of, holds, numbers as order_numbers, part_up}
+use Rattle.points.proofs.WholeTurns.{moved_squeeze}
+use Rattle.search.specs.Copies.{ends_at, same_ends, regular, Serves}
+use Rattle.clearance.specs.Clearance.{shifted_to}
 use Rattle.search.specs.declared.copies.CopyEnds.{CopyEnds}
 
 -- ---- the ends of a copy
 
-pub ends-are : (period a b : Float) {u u' : Float} → u ≡ u' → (x : CopyEnds) → (x.a ≡ (endsAt period u a b).a) × (x.b ≡ (endsAt period u a b).b) → x ≡ endsAt period u' a b
-ends-are period a b {u} e x h = ap₂ {C = CopyEnds} (λ (p q : Float). record { a = p; b = q }) h.0 h.1 ∙ ap (λ (y : Float). endsAt period y a b) e
+pub ends_are : (period a b : Float) {u u' : Float} → u ≡ u' → (x : CopyEnds) → (x.a ≡ (ends_at period u a b).a) × (x.b ≡ (ends_at period u a b).b) → x ≡ ends_at period u' a b
+ends_are period a b {u} e x h = ap₂ {C = CopyEnds} (λ (p q : Float). record { a = p; b = q }) h.0 h.1 ∙ ap (λ (y : Float). ends_at period y a b) e
 
 -- ---- between two columns
 
@@ -44,24 +44,24 @@ module _ (period a b : Float) (reg : regular period a b ≡ true) where
   pub numbers : Numbers
   unfolding regular
   numbers =
-      let o = order-numbers period mid (and_l (keepsOrder period mid) _ tests) in
-      let t = and_r (keepsOrder period mid) _ tests in
+      let o = order_numbers period mid (and_l (keeps_order period mid) _ tests) in
+      let t = and_r (keeps_order period mid) _ tests in
       record {
         above = o.above;
-        start = finite-of a (and_l (not (beyond greatestFinite a)) _ t);
-        end = finite-of b (and_r (not (beyond greatestFinite a)) _ t);
+        start = finite_of a (and_l (not (beyond greatest_finite a)) _ t);
+        end = finite_of b (and_r (not (beyond greatest_finite a)) _ t);
         centre = o.centre;
       }
 
-  pub served-between : (i t : ℕ) → sameEnds (endsAt period (part i) a b) (endsAt period (part t) a b) ≡ true → Serves period i t a b
-  unfolding sameEnds shiftedTo
-  served-between i t e v w m h k =
+  pub served_between : (i t : ℕ) → same_ends (ends_at period (part i) a b) (ends_at period (part t) a b) ≡ true → Serves period i t a b
+  unfolding same_ends shifted_to
+  served_between i t e v w m h k =
       let n = numbers in
-      let x = endsAt period (part i) a b in
-      let y = endsAt period (part t) a b in
-      let s = holds (sameEnds x y) e in
+      let x = ends_at period (part i) a b in
+      let y = ends_at period (part t) a b in
+      let s = holds (same_ends x y) e in
       let s₁ = and_r (eq x.a y.a) _ s in
       let s₂ = and_r (eq x.b y.b) _ s₁ in
       ap₂ (λ (p q : Float). segment (point p v) (point q w))
-      (moved-squeeze period mid a n.above n.centre n.start (part i) (part m) (part t) (part-up i m h) (part-up m t k) (and_l (eq x.a y.a) _ s) (and_l (not (eq x.a plusZero)) _ s₂))
-      (moved-squeeze period mid b n.above n.centre n.end (part i) (part m) (part t) (part-up i m h) (part-up m t k) (and_l (eq x.b y.b) _ s₁) (and_r (not (eq x.a plusZero)) _ s₂))
+      (moved_squeeze period mid a n.above n.centre n.start (part i) (part m) (part t) (part_up i m h) (part_up m t k) (and_l (eq x.a y.a) _ s) (and_l (not (eq x.a plus_zero)) _ s₂))
+      (moved_squeeze period mid b n.above n.centre n.end (part i) (part m) (part t) (part_up i m h) (part_up m t k) (and_l (eq x.b y.b) _ s₁) (and_r (not (eq x.a plus_zero)) _ s₂))

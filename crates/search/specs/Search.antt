@@ -5,12 +5,12 @@
 use Rattle.std.specs.Prelude.{Bool, cond, ℕ, ◌+◌, Float}
 use mathlib.Core.List.{foldl}
 use Rattle.std.specs.Float.Ieee.{lt}
-use Rattle.leaves.specs.Constants.{plusZero}
+use Rattle.leaves.specs.Constants.{plus_zero}
 use Rattle.points.specs.Grid.{lines, part}
 use Rattle.search.specs.declared.candidate.Candidate.{Candidate}
 
 abbrev pub start : Candidate
-start = record { u = plusZero; v = plusZero; clearance = plusZero; count = 0 }
+start = record { u = plus_zero; v = plus_zero; clearance = plus_zero; count = 0 }
 
 -- replaced by (i, j) where its clearance d is greater
 unfoldable pub better : ℕ → ℕ → Float → Candidate → Candidate
@@ -21,8 +21,8 @@ unfoldable pub counted : Candidate → Candidate
 counted best = record { u = best.u; v = best.v; clearance = best.clearance; count = best.count + 1 }
 
 -- "the result counts the covered grid points": whether a grid point, covered or not and of this clearance, is counted
-abbrev pub countedPoint : Bool → Float → Bool
-countedPoint covered d = covered
+abbrev pub counted_point : Bool → Float → Bool
+counted_point covered d = covered
 
 unfoldable pub tallied : Bool → Candidate → Candidate
 unfolding counted
@@ -31,7 +31,7 @@ tallied counts best = cond counts (counted best) best
 module _ (cover : ℕ → ℕ → Bool) (clear : ℕ → ℕ → Float) where
   unfoldable pub visit : ℕ → Candidate → ℕ → Candidate
   unfolding better tallied
-  visit i best j = tallied (countedPoint (cover i j) (clear i j)) (cond (cover i j) (better i j (clear i j) best) best)
+  visit i best j = tallied (counted_point (cover i j) (clear i j)) (cond (cover i j) (better i j (clear i j) best) best)
 
   -- j from 1 to 31, inner
   unfoldable pub column : Candidate → ℕ → Candidate

@@ -4,11 +4,11 @@
 // copy or two.
 ghost use Rattle.std.specs.Prelude.{◌≡◌, map, ◌+◌, ◌/◌, ◌≤◌, length};
 ghost use Rattle.sheet.specs.Content.{point};
-ghost use Rattle.points.specs.Grid.{part as partOf};
-ghost use Rattle.points.specs.Segments.{segment, segmentOf};
-ghost use Rattle.search.specs.Copies.{endsAt, regular, sameEnds, Serving, Serves, Ready};
-ghost use Rattle.clearance.specs.Clearance.{shiftedTo};
-ghost use Rattle.clearance.specs.SegmentLists.{segmentsIn, segmentAt};
+ghost use Rattle.points.specs.Grid.{part as part_of};
+ghost use Rattle.points.specs.Segments.{segment, segment_of};
+ghost use Rattle.search.specs.Copies.{ends_at, regular, same_ends, Serving, Serves, Ready};
+ghost use Rattle.clearance.specs.Clearance.{shifted_to};
+ghost use Rattle.clearance.specs.SegmentLists.{segments_in, segment_at};
 
 use clearance::{NUMBERS, put_segment};
 use points::{Segment, part};
@@ -22,7 +22,7 @@ pub(crate) struct CopyEnds {
 
 // The ends of the copy at u.
 fn ends_at(period: f64, u: f64, a_u: f64, b_u: f64) -> CopyEnds
-    ensures { (result.a ≡ (shiftedTo period u (segment (point a_u a_u) (point b_u b_u))).a.u) × (result.b ≡ (shiftedTo period u (segment (point a_u a_u) (point b_u b_u))).b.u) }
+    ensures { (result.a ≡ (shifted_to period u (segment (point a_u a_u) (point b_u b_u))).a.u) × (result.b ≡ (shifted_to period u (segment (point a_u a_u) (point b_u b_u))).b.u) }
 {
     let offset = points::whole_turns(u - (a_u + b_u) / 2.0, period);
     CopyEnds {
@@ -33,7 +33,7 @@ fn ends_at(period: f64, u: f64, a_u: f64, b_u: f64) -> CopyEnds
 
 // Whether two copies have the same ends, and none at 0, where a sign would not show.
 fn are_same(x: CopyEnds, y: CopyEnds) -> bool
-    ensures { result ≡ sameEnds x y }
+    ensures { result ≡ same_ends x y }
 {
     if x.a == y.a {
         if x.b == y.b {
@@ -60,7 +60,7 @@ fn is_regular(period: f64, a_u: f64, b_u: f64) -> bool
 
 // Whether a copy with these ends is the one at column m.
 fn is_served(period: f64, ends: CopyEnds, m: u32, a_u: f64, b_u: f64) -> bool
-    ensures { result ≡ sameEnds ends (endsAt period (partOf m) a_u b_u) }
+    ensures { result ≡ same_ends ends (ends_at period (part_of m) a_u b_u) }
 {
     are_same(ends, ends_at(period, part(m), a_u, b_u))
 }
@@ -68,7 +68,7 @@ fn is_served(period: f64, ends: CopyEnds, m: u32, a_u: f64, b_u: f64) -> bool
 // A column from i on up to which the copy at column i, which has these ends, serves: the last one, or one
 // that is found by halves.
 fn served(period: f64, i: u32, ends: CopyEnds, a_u: f64, b_u: f64) -> u32
-    requires { (1 ≤ i) × (i ≤ 31) × (ends ≡ endsAt period (partOf i) a_u b_u) }
+    requires { (1 ≤ i) × (i ≤ 31) × (ends ≡ ends_at period (part_of i) a_u b_u) }
     ensures { (i ≤ result) × Serves period i result a_u b_u }
 {
     if !is_regular(period, a_u, b_u) {
@@ -93,8 +93,8 @@ fn served(period: f64, i: u32, ends: CopyEnds, a_u: f64, b_u: f64) -> u32
 // The copy of a segment at column i, in its four places: left as it is where it still serves, else worked
 // out. It answers a column up to which it serves.
 fn renew_one(period: f64, i: u32, s: Segment, until: u32, copy: &mut [f64]) -> u32
-    requires { (1 ≤ i) × (i ≤ 31) × (length copy.old ≡ 4) × Serving period i until (segmentOf s) (segmentAt copy.old 0) }
-    ensures { (i ≤ result) × Serving period i result (segmentOf s) (segmentAt copy.new 0) }
+    requires { (1 ≤ i) × (i ≤ 31) × (length copy.old ≡ 4) × Serving period i until (segment_of s) (segment_at copy.old 0) }
+    ensures { (i ≤ result) × Serving period i result (segment_of s) (segment_at copy.new 0) }
 {
     if i <= until {
         return until;
@@ -109,7 +109,7 @@ fn renew_one(period: f64, i: u32, s: Segment, until: u32, copy: &mut [f64]) -> u
 // The copies of all segments at column i, over those of the column before.
 pub(crate) fn renew(period: f64, i: u32, list: &[f64], until: &mut [u32], copies: &mut [f64])
     requires { (1 ≤ i) × (i ≤ 31) × (length list.now ≡ length copies.old) × (length list.now / 4 ≤ length until.old) × Ready period i list.now until.old copies.old }
-    ensures { (segmentsIn copies.new ≡ map (shiftedTo period (partOf i)) (segmentsIn list.now)) × Ready period (i + 1) list.now until.new copies.new }
+    ensures { (segments_in copies.new ≡ map (shifted_to period (part_of i)) (segments_in list.now)) × Ready period (i + 1) list.now until.new copies.new }
 {
     let count = list.len() / NUMBERS;
     let mut k = 0;

@@ -7,41 +7,41 @@ use native.Mathlib.Omega.{arith}
 use lib.ListN.{length, get_or, take, drop, length-drop}
 use lib.Seq.{take-suc, drop-drop, get_or-drop}
 use borrow.Author.Tests.{lt-ltb, le-ltb}
-use Rattle.leaves.specs.Constants.{plusZero}
-use Rattle.sheet.specs.Layout.{big, numberOf, number}
+use Rattle.leaves.specs.Constants.{plus_zero}
+use Rattle.sheet.specs.Layout.{big, number_of, number}
 
 -- ---- big-endian
 
 -- one byte more
-big-step : (s : List ℕ) (n : ℕ) → n < length s → big (take (suc n) s) ≡ big (take n s) * 256 + get_or s n 0
+big_step : (s : List ℕ) (n : ℕ) → n < length s → big (take (suc n) s) ≡ big (take n s) * 256 + get_or s n 0
 unfolding big
-big-step s n h = ap (foldl (λ (x b : ℕ). x * 256 + b) 0) (take-suc s n 0 h) ∙ foldl-append (λ (x b : ℕ). x * 256 + b) 0 (take n s) (get_or s n 0 ∷ [])
+big_step s n h = ap (foldl (λ (x b : ℕ). x * 256 + b) 0) (take-suc s n 0 h) ∙ foldl-append (λ (x b : ℕ). x * 256 + b) 0 (take n s) (get_or s n 0 ∷ [])
 
-big-none : (s : List ℕ) → big (take 0 s) ≡ 0
+big_none : (s : List ℕ) → big (take 0 s) ≡ 0
 unfolding big
-big-none s = refl
+big_none s = refl
 
 -- four bytes
-big-four : (s : List ℕ) → 4 ≤ length s → big (take 4 s) ≡ get_or s 0 0 * 0x1000000 + get_or s 1 0 * 0x10000 + get_or s 2 0 * 0x100 + get_or s 3 0
-big-four s h = omega (arith, big-none s, big-step s 0 (omega arith), big-step s 1 (omega arith), big-step s 2 (omega arith), big-step s 3 (omega arith))
+big_four : (s : List ℕ) → 4 ≤ length s → big (take 4 s) ≡ get_or s 0 0 * 0x1000000 + get_or s 1 0 * 0x10000 + get_or s 2 0 * 0x100 + get_or s 3 0
+big_four s h = omega (arith, big_none s, big_step s 0 (omega arith), big_step s 1 (omega arith), big_step s 2 (omega arith), big_step s 3 (omega arith))
 
 -- those that stand at a place
-pub word-at : (s : List ℕ) (at : ℕ) → at + 4 ≤ length s → big (take 4 (drop at s)) ≡ get_or s at 0 * 0x1000000 + get_or s (at + 1) 0 * 0x10000 + get_or s (at + 2) 0 * 0x100 + get_or s (at + 3) 0
-word-at s at h = big-four (drop at s) (simp length-drop (omega arith)) ∙ simp (get_or-drop, add-zero)
+pub word_at : (s : List ℕ) (at : ℕ) → at + 4 ≤ length s → big (take 4 (drop at s)) ≡ get_or s at 0 * 0x1000000 + get_or s (at + 1) 0 * 0x10000 + get_or s (at + 2) 0 * 0x100 + get_or s (at + 3) 0
+word_at s at h = big_four (drop at s) (simp length-drop (omega arith)) ∙ simp (get_or-drop, add-zero)
 
 -- eight bytes are four and four
-pub two-words : (s : List ℕ) (at : ℕ) → at + 8 ≤ length s → big (take 8 (drop at s)) ≡ big (take 4 (drop at s)) * 0x100000000 + big (take 4 (drop (at + 4) s))
-two-words s at h = go (drop at s) (simp length-drop (omega arith)) ∙ simp drop-drop
+pub two_words : (s : List ℕ) (at : ℕ) → at + 8 ≤ length s → big (take 8 (drop at s)) ≡ big (take 4 (drop at s)) * 0x100000000 + big (take 4 (drop (at + 4) s))
+two_words s at h = go (drop at s) (simp length-drop (omega arith)) ∙ simp drop-drop
   where
     go : (l : List ℕ) → 8 ≤ length l → big (take 8 l) ≡ big (take 4 l) * 0x100000000 + big (take 4 (drop 4 l))
-    go l h = omega (arith, big-step l 4 (omega arith), big-step l 5 (omega arith), big-step l 6 (omega arith), big-step l 7 (omega arith), word-at l 4 (omega arith))
+    go l h = omega (arith, big_step l 4 (omega arith), big_step l 5 (omega arith), big_step l 6 (omega arith), big_step l 7 (omega arith), word_at l 4 (omega arith))
 
 -- ---- the number that s begins with
 
-pub number-short : (s : List ℕ) → length s < 8 → number s ≡ plusZero
+pub number_short : (s : List ℕ) → length s < 8 → number s ≡ plus_zero
 unfolding number
-number-short s h = rw (lt-ltb (length s) 8 h)
+number_short s h = rw (lt-ltb (length s) 8 h)
 
-pub number-whole : (s : List ℕ) → 8 ≤ length s → number s ≡ numberOf (big (take 8 s))
+pub number_whole : (s : List ℕ) → 8 ≤ length s → number s ≡ number_of (big (take 8 s))
 unfolding number
-number-whole s h = rw (le-ltb (length s) 8 h)
+number_whole s h = rw (le-ltb (length s) 8 h)

@@ -9,131 +9,131 @@ use lib.Ieee.{of_bits, lt, le}
 use lib.Ieee.Positive.{num}
 use lib.ListN.{length, drop}
 use borrow.Author.Tests.{ltb-false, eqb-true, eqb-false, not-false}
-use Rattle.leaves.specs.Constants.{plusZero, deviationLimit}
-use Rattle.leaves.proofs.Folds.{All, all-append}
+use Rattle.leaves.specs.Constants.{plus_zero, deviation_limit}
+use Rattle.leaves.proofs.Folds.{All, all_append}
 use Rattle.leaves.proofs.Magnitudes.{Most}
-use Rattle.sheet.specs.Content.{Point, Coedge, Sheet, ringPoints}
+use Rattle.sheet.specs.Content.{Point, Coedge, Sheet, ring_points}
 use Rattle.answers.specs.Limits.{beyond}
-use Rattle.answers.specs.Lists.{anyOf}
-use Rattle.sheet.specs.Layout.{lengthField, version, kind, sense, ringCount, headSize, plane, blocks, cut, ring, sheetOf}
+use Rattle.answers.specs.Lists.{any_of}
+use Rattle.sheet.specs.Layout.{length_field, version, kind, sense, ring_count, head_size, plane, blocks, cut, ring, sheet_of}
 use Rattle.answers.specs.Outcome.{Check, first}
-use Rattle.answers.proofs.AnyOf.{neither, any-false}
-use Rattle.answers.proofs.Finite.{not-beyond-most}
-use Rattle.answers.proofs.FirstCheck.{Numbered, none-fails, append-none}
-use Rattle.answers.proofs.Permutations.{all-weaken}
-use Rattle.sheet.specs.Checks.{lengthWrong, versionWrong, kindWrong, countWrong, fill, blocksWrong, empty, coedgeTotal, coedgesWrong, coordinateLimit, pointWrong, coedgeWrong, ringWrong, planeWrong, numbersWrong, layoutChecks, contentChecks}
+use Rattle.answers.proofs.AnyOf.{neither, any_false}
+use Rattle.answers.proofs.Finite.{not_beyond_most}
+use Rattle.answers.proofs.FirstCheck.{Numbered, none_fails, append_none}
+use Rattle.answers.proofs.Permutations.{all_weaken}
+use Rattle.sheet.specs.Checks.{length_wrong, version_wrong, kind_wrong, count_wrong, fill, blocks_wrong, empty, coedge_total, coedges_wrong, coordinate_limit, point_wrong, coedge_wrong, ring_wrong, plane_wrong, numbers_wrong, layout_checks, content_checks}
 
 -- ---- the table
 
 -- what holds of the rows' numbers
-pub layout-all : (P : ℕ → Type 0) (s : List ℕ) → P 1 × P 2 × P 3 × P 4 × P 5 → All (λ (c : Check). P c.number) (layoutChecks s)
-unfolding layoutChecks
-layout-all P s h = (h.0, (h.1, (h.2, (h.3, (h.4, tt)))))
+pub layout_all : (P : ℕ → Type 0) (s : List ℕ) → P 1 × P 2 × P 3 × P 4 × P 5 → All (λ (c : Check). P c.number) (layout_checks s)
+unfolding layout_checks
+layout_all P s h = (h.0, (h.1, (h.2, (h.3, (h.4, tt)))))
 
-pub content-all : (P : ℕ → Type 0) (s : Sheet) → P 6 × P 7 → All (λ (c : Check). P c.number) (contentChecks s)
-unfolding contentChecks
-content-all P s h = (h.0, (h.1, tt))
+pub content_all : (P : ℕ → Type 0) (s : Sheet) → P 6 × P 7 → All (λ (c : Check). P c.number) (content_checks s)
+unfolding content_checks
+content_all P s h = (h.0, (h.1, tt))
 
-pub layout-numbered : (s : List ℕ) → Numbered (layoutChecks s)
-layout-numbered s = layout-all (λ (n : ℕ). 0 < n) s (omega arith)
+pub layout_numbered : (s : List ℕ) → Numbered (layout_checks s)
+layout_numbered s = layout_all (λ (n : ℕ). 0 < n) s (omega arith)
 
-pub content-numbered : (s : Sheet) → Numbered (contentChecks s)
-content-numbered s = content-all (λ (n : ℕ). 0 < n) s (omega arith)
+pub content_numbered : (s : Sheet) → Numbered (content_checks s)
+content_numbered s = content_all (λ (n : ℕ). 0 < n) s (omega arith)
 
-pub sheet-numbered : (s : List ℕ) → Numbered (layoutChecks s ++ contentChecks (sheetOf s))
-sheet-numbered s = all-append (λ (c : Check). 0 < c.number) (layoutChecks s) (contentChecks (sheetOf s)) (layout-numbered s) (content-numbered (sheetOf s))
+pub sheet_numbered : (s : List ℕ) → Numbered (layout_checks s ++ content_checks (sheet_of s))
+sheet_numbered s = all_append (λ (c : Check). 0 < c.number) (layout_checks s) (content_checks (sheet_of s)) (layout_numbered s) (content_numbered (sheet_of s))
 
--- the rings that stand in the blocks: `(sheetOf s).rings`, computed
-abbrev pub ringsOf : List ℕ → List (List Coedge)
-ringsOf s = map ring (cut (ringCount s) (drop (headSize (kind s)) s))
+-- the rings that stand in the blocks: `(sheet_of s).rings`, computed
+abbrev pub rings_of : List ℕ → List (List Coedge)
+rings_of s = map ring (cut (ring_count s) (drop (head_size (kind s)) s))
 
-pub rings-are : (s : List ℕ) → (sheetOf s).rings ≡ ringsOf s
-unfolding sheetOf blocks
-rings-are s = refl
+pub rings_are : (s : List ℕ) → (sheet_of s).rings ≡ rings_of s
+unfolding sheet_of blocks
+rings_are s = refl
 
-pub table : (s : List ℕ) → first (layoutChecks s ++ contentChecks (sheetOf s)) ≡ cond (lengthWrong s) 1 (cond (versionWrong s) 2 (cond (kindWrong s) 3 (cond (countWrong s) 4 (cond (blocksWrong s) 5 (cond (coedgesWrong (ringsOf s)) 6 (cond (planeWrong (plane s) || anyOf ringWrong (ringsOf s)) 7 0))))))
-unfolding first layoutChecks contentChecks sheetOf blocks numbersWrong
+pub table : (s : List ℕ) → first (layout_checks s ++ content_checks (sheet_of s)) ≡ cond (length_wrong s) 1 (cond (version_wrong s) 2 (cond (kind_wrong s) 3 (cond (count_wrong s) 4 (cond (blocks_wrong s) 5 (cond (coedges_wrong (rings_of s)) 6 (cond (plane_wrong (plane s) || any_of ring_wrong (rings_of s)) 7 0))))))
+unfolding first layout_checks content_checks sheet_of blocks numbers_wrong
 table s = refl
 
 -- ---- a layout that reads: the checks down to 5 pass
 
 pub record Laid (s : List ℕ) : Type 0 where
-  pub lengthRight : lengthWrong s ≡ false
-  pub versionRight : versionWrong s ≡ false
-  pub kindRight : kindWrong s ≡ false
-  pub countRight : countWrong s ≡ false
-  pub blocksRight : blocksWrong s ≡ false
+  pub length_right : length_wrong s ≡ false
+  pub version_right : version_wrong s ≡ false
+  pub kind_right : kind_wrong s ≡ false
+  pub count_right : count_wrong s ≡ false
+  pub blocks_right : blocks_wrong s ≡ false
   pub long : 8 ≤ length s
-  pub lengthIs : lengthField s ≡ length s - 4
-  pub versionIs : version s ≡ 1
-  pub kindMost : kind s ≤ 6
-  pub senseMost : sense s ≤ 2
-  pub ringsLeast : 1 ≤ ringCount s
-  pub ringsMost : ringCount s ≤ 16
-  pub headFits : headSize (kind s) ≤ length s
-  pub filled : fill (ringCount s) (drop (headSize (kind s)) s) ≡ true
+  pub length_is : length_field s ≡ length s - 4
+  pub version_is : version s ≡ 1
+  pub kind_most : kind s ≤ 6
+  pub sense_most : sense s ≤ 2
+  pub rings_least : 1 ≤ ring_count s
+  pub rings_most : ring_count s ≤ 16
+  pub head_fits : head_size (kind s) ≤ length s
+  pub filled : fill (ring_count s) (drop (head_size (kind s)) s) ≡ true
 
-pub head-size-most : (k : ℕ) → headSize k ≤ 80
-unfolding headSize
-head-size-most k = go (eqb k 0)
+pub head_size_most : (k : ℕ) → head_size k ≤ 80
+unfolding head_size
+head_size_most k = go (eqb k 0)
   where
     go : (b : Bool) → cond b 80 8 ≤ 80
     go true = omega arith
     go false = omega arith
 
-length-right : (s : List ℕ) → lengthWrong s ≡ false → (8 ≤ length s) × (lengthField s ≡ length s - 4)
-unfolding lengthWrong
-length-right s e =
-    let p = neither (ltb (length s) 8) (not (eqb (lengthField s) (length s - 4))) e in
-    (ltb-false (length s) 8 p.0, eqb-true (lengthField s) (length s - 4) (not-false (eqb (lengthField s) (length s - 4)) p.1))
+length_right_lem : (s : List ℕ) → length_wrong s ≡ false → (8 ≤ length s) × (length_field s ≡ length s - 4)
+unfolding length_wrong
+length_right_lem s e =
+    let p = neither (ltb (length s) 8) (not (eqb (length_field s) (length s - 4))) e in
+    (ltb-false (length s) 8 p.0, eqb-true (length_field s) (length s - 4) (not-false (eqb (length_field s) (length s - 4)) p.1))
 
-version-right : (s : List ℕ) → versionWrong s ≡ false → version s ≡ 1
-unfolding versionWrong
-version-right s e = eqb-true (version s) 1 (not-false (eqb (version s) 1) e)
+version_right_lem : (s : List ℕ) → version_wrong s ≡ false → version s ≡ 1
+unfolding version_wrong
+version_right_lem s e = eqb-true (version s) 1 (not-false (eqb (version s) 1) e)
 
-kind-right : (s : List ℕ) → kindWrong s ≡ false → (kind s ≤ 6) × (sense s ≤ 2)
-unfolding kindWrong
-kind-right s e =
+kind_right_lem : (s : List ℕ) → kind_wrong s ≡ false → (kind s ≤ 6) × (sense s ≤ 2)
+unfolding kind_wrong
+kind_right_lem s e =
     let p = neither (ltb 6 (kind s)) (ltb 2 (sense s)) e in
     (ltb-false 6 (kind s) p.0, ltb-false 2 (sense s) p.1)
 
-count-right : (s : List ℕ) → countWrong s ≡ false → (1 ≤ ringCount s) × (ringCount s ≤ 16)
-unfolding countWrong
-count-right s e =
-    let p = neither (eqb (ringCount s) 0) (ltb 16 (ringCount s)) e in
-    let some = eqb-false (ringCount s) 0 p.0 in
-    (omega arith, ltb-false 16 (ringCount s) p.1)
+count_right_lem : (s : List ℕ) → count_wrong s ≡ false → (1 ≤ ring_count s) × (ring_count s ≤ 16)
+unfolding count_wrong
+count_right_lem s e =
+    let p = neither (eqb (ring_count s) 0) (ltb 16 (ring_count s)) e in
+    let some = eqb-false (ring_count s) 0 p.0 in
+    (omega arith, ltb-false 16 (ring_count s) p.1)
 
-pub blocks-right : (s : List ℕ) → blocksWrong s ≡ false → (headSize (kind s) ≤ length s) × (fill (ringCount s) (drop (headSize (kind s)) s) ≡ true)
-unfolding blocksWrong
-blocks-right s e =
-    let h = headSize (kind s) in
-    let f = fill (ringCount s) (drop h s) in
+pub blocks_right_lem : (s : List ℕ) → blocks_wrong s ≡ false → (head_size (kind s) ≤ length s) × (fill (ring_count s) (drop (head_size (kind s)) s) ≡ true)
+unfolding blocks_wrong
+blocks_right_lem s e =
+    let h = head_size (kind s) in
+    let f = fill (ring_count s) (drop h s) in
     let p = neither (ltb (length s) h) (not f) e in
     (ltb-false (length s) h p.0, not-false f p.1)
 
-pub laid : (s : List ℕ) → first (layoutChecks s) ≡ 0 → Laid s
-unfolding layoutChecks
+pub laid : (s : List ℕ) → first (layout_checks s) ≡ 0 → Laid s
+unfolding layout_checks
 laid s e =
-    let p = none-fails (layoutChecks s) (layout-numbered s) e in
-    let lengths = length-right s p.0 in
-    let kinds = kind-right s p.1.1.0 in
-    let counts = count-right s p.1.1.1.0 in
-    let fills = blocks-right s p.1.1.1.1.0 in
+    let p = none_fails (layout_checks s) (layout_numbered s) e in
+    let lengths = length_right_lem s p.0 in
+    let kinds = kind_right_lem s p.1.1.0 in
+    let counts = count_right_lem s p.1.1.1.0 in
+    let fills = blocks_right_lem s p.1.1.1.1.0 in
     record {
-      lengthRight = p.0;
-      versionRight = p.1.0;
-      kindRight = p.1.1.0;
-      countRight = p.1.1.1.0;
-      blocksRight = p.1.1.1.1.0;
+      length_right = p.0;
+      version_right = p.1.0;
+      kind_right = p.1.1.0;
+      count_right = p.1.1.1.0;
+      blocks_right = p.1.1.1.1.0;
       long = lengths.0;
-      lengthIs = lengths.1;
-      versionIs = version-right s p.1.0;
-      kindMost = kinds.0;
-      senseMost = kinds.1;
-      ringsLeast = counts.0;
-      ringsMost = counts.1;
-      headFits = fills.0;
+      length_is = lengths.1;
+      version_is = version_right_lem s p.1.0;
+      kind_most = kinds.0;
+      sense_most = kinds.1;
+      rings_least = counts.0;
+      rings_most = counts.1;
+      head_fits = fills.0;
       filled = fills.1;
     }
 
@@ -141,12 +141,12 @@ laid s e =
 
 pub record Checked (s : List ℕ) : Type 0 where
   pub layout : Laid s
-  pub coedgesRight : coedgesWrong (sheetOf s).rings ≡ false
-  pub numbersRight : numbersWrong (sheetOf s) ≡ false
-  pub ringsFull : All (λ (r : List Coedge). 1 ≤ length r) (sheetOf s).rings
-  pub coedgesMost : coedgeTotal (sheetOf s).rings ≤ 128
-  pub planeRight : planeWrong (sheetOf s).plane ≡ false
-  pub ringsRight : All (λ (r : List Coedge). ringWrong r ≡ false) (sheetOf s).rings
+  pub coedges_right : coedges_wrong (sheet_of s).rings ≡ false
+  pub numbers_right : numbers_wrong (sheet_of s) ≡ false
+  pub rings_full : All (λ (r : List Coedge). 1 ≤ length r) (sheet_of s).rings
+  pub coedges_most : coedge_total (sheet_of s).rings ≤ 128
+  pub plane_right : plane_wrong (sheet_of s).plane ≡ false
+  pub rings_right : All (λ (r : List Coedge). ring_wrong r ≡ false) (sheet_of s).rings
 
 full : (rings : List (List Coedge)) → All (λ (r : List Coedge). empty r ≡ false) rings → All (λ (r : List Coedge). 1 ≤ length r) rings
 unfolding empty
@@ -154,67 +154,67 @@ full [] h = tt
 full ([] ∷ rs) h = absurd (true≢false h.0)
 full ((c ∷ cs) ∷ rs) h = (omega arith, full rs h.1)
 
-pub coedges-right : (rings : List (List Coedge)) → coedgesWrong rings ≡ false → All (λ (r : List Coedge). 1 ≤ length r) rings × (coedgeTotal rings ≤ 128)
-unfolding coedgesWrong
-coedges-right rings e =
-    let p = neither (anyOf empty rings) (ltb 128 (coedgeTotal rings)) e in
-    (full rings (any-false empty rings p.0), ltb-false 128 (coedgeTotal rings) p.1)
+pub coedges_right_lem : (rings : List (List Coedge)) → coedges_wrong rings ≡ false → All (λ (r : List Coedge). 1 ≤ length r) rings × (coedge_total rings ≤ 128)
+unfolding coedges_wrong
+coedges_right_lem rings e =
+    let p = neither (any_of empty rings) (ltb 128 (coedge_total rings)) e in
+    (full rings (any_false empty rings p.0), ltb-false 128 (coedge_total rings) p.1)
 
-pub numbers-right : (s : Sheet) → numbersWrong s ≡ false → (planeWrong s.plane ≡ false) × All (λ (r : List Coedge). ringWrong r ≡ false) s.rings
-unfolding numbersWrong
-numbers-right s e =
-    let p = neither (planeWrong s.plane) (anyOf ringWrong s.rings) e in
-    (p.0, any-false ringWrong s.rings p.1)
+pub numbers_right_lem : (s : Sheet) → numbers_wrong s ≡ false → (plane_wrong s.plane ≡ false) × All (λ (r : List Coedge). ring_wrong r ≡ false) s.rings
+unfolding numbers_wrong
+numbers_right_lem s e =
+    let p = neither (plane_wrong s.plane) (any_of ring_wrong s.rings) e in
+    (p.0, any_false ring_wrong s.rings p.1)
 
-pub checked : (s : List ℕ) → first (layoutChecks s ++ contentChecks (sheetOf s)) ≡ 0 → Checked s
-unfolding contentChecks
+pub checked : (s : List ℕ) → first (layout_checks s ++ content_checks (sheet_of s)) ≡ 0 → Checked s
+unfolding content_checks
 checked s e =
-    let xs = layoutChecks s in
-    let ys = contentChecks (sheetOf s) in
-    let parts = append-none xs ys (layout-numbered s) e in
-    let p = none-fails ys (content-numbered (sheetOf s)) parts.1 in
-    let counts = coedges-right (sheetOf s).rings p.0 in
-    let numbers = numbers-right (sheetOf s) p.1.0 in
+    let xs = layout_checks s in
+    let ys = content_checks (sheet_of s) in
+    let parts = append_none xs ys (layout_numbered s) e in
+    let p = none_fails ys (content_numbered (sheet_of s)) parts.1 in
+    let counts = coedges_right_lem (sheet_of s).rings p.0 in
+    let numbers = numbers_right_lem (sheet_of s) p.1.0 in
     record {
       layout = laid s parts.0;
-      coedgesRight = p.0;
-      numbersRight = p.1.0;
-      ringsFull = counts.0;
-      coedgesMost = counts.1;
-      planeRight = numbers.0;
-      ringsRight = numbers.1;
+      coedges_right = p.0;
+      numbers_right = p.1.0;
+      rings_full = counts.0;
+      coedges_most = counts.1;
+      plane_right = numbers.0;
+      rings_right = numbers.1;
     }
 
 -- ---- the points of a ring that passes check 7
 
 -- the limit of a coordinate, as the whole number that it is
-abbrev pub coordinateMost : ℕ
-coordinateMost = num coordinateLimit
+abbrev pub coordinate_most : ℕ
+coordinate_most = num coordinate_limit
 
-limit-most : Most coordinateMost coordinateLimit
+limit_most : Most coordinate_most coordinate_limit
 unfolding of_bits
-limit-most = omega arith
+limit_most = omega arith
 
 -- neither coordinate is larger than n
 abbrev pub MostPoint : ℕ → Point → Type 0
 MostPoint n p = Most n p.u × Most n p.v
 
-point-most : (p : Point) → pointWrong p ≡ false → MostPoint coordinateMost p
-unfolding pointWrong
-point-most p e =
-    let q = neither (beyond coordinateLimit p.u) (beyond coordinateLimit p.v) e in
-    (not-beyond-most coordinateMost coordinateLimit p.u limit-most q.0, not-beyond-most coordinateMost coordinateLimit p.v limit-most q.1)
+point_most : (p : Point) → point_wrong p ≡ false → MostPoint coordinate_most p
+unfolding point_wrong
+point_most p e =
+    let q = neither (beyond coordinate_limit p.u) (beyond coordinate_limit p.v) e in
+    (not_beyond_most coordinate_most coordinate_limit p.u limit_most q.0, not_beyond_most coordinate_most coordinate_limit p.v limit_most q.1)
 
-coedge-most : (c : Coedge) → coedgeWrong c ≡ false → All (MostPoint coordinateMost) c.points
-unfolding coedgeWrong
-coedge-most c e =
-    let p = neither (not (le plusZero c.deviation && lt c.deviation deviationLimit)) (anyOf pointWrong c.points) e in
-    all-weaken (λ (p : Point). pointWrong p ≡ false) (MostPoint coordinateMost) point-most c.points (any-false pointWrong c.points p.1)
+coedge_most : (c : Coedge) → coedge_wrong c ≡ false → All (MostPoint coordinate_most) c.points
+unfolding coedge_wrong
+coedge_most c e =
+    let p = neither (not (le plus_zero c.deviation && lt c.deviation deviation_limit)) (any_of point_wrong c.points) e in
+    all_weaken (λ (p : Point). point_wrong p ≡ false) (MostPoint coordinate_most) point_most c.points (any_false point_wrong c.points p.1)
 
-pub ring-most : (r : List Coedge) → ringWrong r ≡ false → All (MostPoint coordinateMost) (ringPoints r)
-unfolding ringWrong ringPoints flat_map
-ring-most r e = go r (any-false coedgeWrong r e)
+pub ring_most : (r : List Coedge) → ring_wrong r ≡ false → All (MostPoint coordinate_most) (ring_points r)
+unfolding ring_wrong ring_points flat_map
+ring_most r e = go r (any_false coedge_wrong r e)
   where
-    go : (cs : List Coedge) → All (λ (c : Coedge). coedgeWrong c ≡ false) cs → All (MostPoint coordinateMost) (ringPoints cs)
+    go : (cs : List Coedge) → All (λ (c : Coedge). coedge_wrong c ≡ false) cs → All (MostPoint coordinate_most) (ring_points cs)
     go [] h = tt
-    go (c ∷ cs) h = all-append (MostPoint coordinateMost) c.points (ringPoints cs) (coedge-most c h.0) (go cs h.1)
+    go (c ∷ cs) h = all_append (MostPoint coordinate_most) c.points (ring_points cs) (coedge_most c h.0) (go cs h.1)

@@ -13,93 +13,93 @@ use lib.Ieee.Bits.{of_bits-fits}
 use lib.Ieee.Digits.{Equals, odd_val}
 use lib.Ieee.Fits.{down_pos}
 use borrow.Author.Tests.{eqb-false}
-use Rattle.leaves.specs.Constants.{plusZero}
+use Rattle.leaves.specs.Constants.{plus_zero}
 use Rattle.leaves.proofs.Choices.{Clear}
-use Rattle.leaves.proofs.Folds.{All, all-append}
-use Rattle.leaves.proofs.Order.{minusZero}
-use Rattle.sheet.specs.Content.{Point, Coedge, ringPoints}
-use Rattle.sheet.specs.Layout.{big, numberOf, number, points, coedge, coedges, ring}
+use Rattle.leaves.proofs.Folds.{All, all_append}
+use Rattle.leaves.proofs.Order.{minus_zero}
+use Rattle.sheet.specs.Content.{Point, Coedge, ring_points}
+use Rattle.sheet.specs.Layout.{big, number_of, number, points, coedge, coedges, ring}
 
 -- ---- a pattern that is not 0 without its sign stands for no zero
 
-above-zero : (x : Float) (a c : ℕ) → 0 < a → Equals x a c → T (not (minusZero x))
-above-zero nan a c h v = tt
-above-zero (inf t) a c h v = tt
-above-zero (fin false m e) a c h v = tt
-above-zero (fin true (suc m) e) a c h v = tt
-above-zero (fin true zero e) a c h v = absurd (lt_irrefl 0 (subst (λ (x : ℕ). 0 < x) (sym v ∙ ap (λ (x : ℕ). x * c) (zero-mul (up e)) ∙ zero-mul c) (mul-pos h (down_pos e))))
+above_zero : (x : Float) (a c : ℕ) → 0 < a → Equals x a c → T (not (minus_zero x))
+above_zero nan a c h v = tt
+above_zero (inf t) a c h v = tt
+above_zero (fin false m e) a c h v = tt
+above_zero (fin true (suc m) e) a c h v = tt
+above_zero (fin true zero e) a c h v = absurd (lt_irrefl 0 (subst (λ (x : ℕ). 0 < x) (sym v ∙ ap (λ (x : ℕ). x * c) (zero-mul (up e)) ∙ zero-mul c) (mul-pos h (down_pos e))))
 
-odd-clear : (s : Bool) (q k : ℕ) → 0 < q → T (not (minusZero (odd (prec binary64) s q k (low binary64))))
-odd-clear s q k h = above-zero (odd (prec binary64) s q k (low binary64)) (q * 2 ^ k) (2 ^ low binary64) (mul-pos h (pow_pos k)) (odd_val (prec binary64) s q k (low binary64))
+odd_clear : (s : Bool) (q k : ℕ) → 0 < q → T (not (minus_zero (odd (prec binary64) s q k (low binary64))))
+odd_clear s q k h = above_zero (odd (prec binary64) s q k (low binary64)) (q * 2 ^ k) (2 ^ low binary64) (mul-pos h (pow_pos k)) (odd_val (prec binary64) s q k (low binary64))
 
-fields-clear : (s : Bool) (x t : ℕ) → (x ≡ 0 → 0 < t) → T (not (minusZero (of_fields binary64 s x t)))
+fields_clear : (s : Bool) (x t : ℕ) → (x ≡ 0 → 0 < t) → T (not (minus_zero (of_fields binary64 s x t)))
 unfolding of_fields
-fields-clear s zero t h = odd-clear s t 0 (h refl)
-fields-clear s (suc x) t h = go (eqb (suc x) (ones binary64)) (eqb t 0)
+fields_clear s zero t h = odd_clear s t 0 (h refl)
+fields_clear s (suc x) t h = go (eqb (suc x) (ones binary64)) (eqb t 0)
   where
-    go : (b d : Bool) → T (not (minusZero (cond b (cond d (inf s) nan) (odd (prec binary64) s (hid binary64 + t) x (low binary64)))))
+    go : (b d : Bool) → T (not (minus_zero (cond b (cond d (inf s) nan) (odd (prec binary64) s (hid binary64 + t) x (low binary64)))))
     go true true = tt
     go true false = tt
-    go false d = odd-clear s (hid binary64 + t) x (lt_of_lt_of_le (pow_pos 52) (le-add_right (hid binary64) t))
+    go false d = odd_clear s (hid binary64 + t) x (lt_of_lt_of_le (pow_pos 52) (le-add_right (hid binary64) t))
 
-digits-left : (b : ℕ) → (b % 0x8000000000000000 ≡ 0 → ⊥) → b % 0x8000000000000000 / 0x10000000000000 ≡ 0 → 0 < b % 0x10000000000000
-digits-left b h e = omega arith
+digits_left : (b : ℕ) → (b % 0x8000000000000000 ≡ 0 → ⊥) → b % 0x8000000000000000 / 0x10000000000000 ≡ 0 → 0 < b % 0x10000000000000
+digits_left b h e = omega arith
 
-pattern-clear : (b : ℕ) → (b % 2 ^ 63 ≡ 0 → ⊥) → T (not (minusZero (of_bits binary64 b)))
+pattern_clear : (b : ℕ) → (b % 2 ^ 63 ≡ 0 → ⊥) → T (not (minus_zero (of_bits binary64 b)))
 unfolding of_bits
-pattern-clear b h = fields-clear (leb 0x8000000000000000 b) (b % 0x8000000000000000 / 0x10000000000000) (b % 0x10000000000000) (digits-left b h)
+pattern_clear b h = fields_clear (leb 0x8000000000000000 b) (b % 0x8000000000000000 / 0x10000000000000) (b % 0x10000000000000) (digits_left b h)
 
 -- ---- the numbers
 
-zero-clear : Clear binary64 plusZero
+zero_clear : Clear binary64 plus_zero
 unfolding of_bits
-zero-clear = record { held = of_bits-fits binary64 0; unmarked = tt }
+zero_clear = record { held = of_bits-fits binary64 0; unmarked = tt }
 
-pub bits-clear : (bits : ℕ) → Clear binary64 (numberOf bits)
-unfolding numberOf
-bits-clear bits = go (eqb (bits % 2 ^ 63) 0) refl
+pub bits_clear : (bits : ℕ) → Clear binary64 (number_of bits)
+unfolding number_of
+bits_clear bits = go (eqb (bits % 2 ^ 63) 0) refl
   where
-    go : (b : Bool) → eqb (bits % 2 ^ 63) 0 ≡ b → Clear binary64 (cond b plusZero (of_bits binary64 bits))
-    go true e = zero-clear
-    go false e = record { held = of_bits-fits binary64 bits; unmarked = pattern-clear bits (eqb-false (bits % 2 ^ 63) 0 e) }
+    go : (b : Bool) → eqb (bits % 2 ^ 63) 0 ≡ b → Clear binary64 (cond b plus_zero (of_bits binary64 bits))
+    go true e = zero_clear
+    go false e = record { held = of_bits-fits binary64 bits; unmarked = pattern_clear bits (eqb-false (bits % 2 ^ 63) 0 e) }
 
-pub number-clear : (s : List ℕ) → Clear binary64 (number s)
+pub number_clear : (s : List ℕ) → Clear binary64 (number s)
 unfolding number
-number-clear s = go (ltb (length s) 8)
+number_clear s = go (ltb (length s) 8)
   where
-    go : (b : Bool) → Clear binary64 (cond b plusZero (numberOf (big (take 8 s))))
-    go true = zero-clear
-    go false = bits-clear (big (take 8 s))
+    go : (b : Bool) → Clear binary64 (cond b plus_zero (number_of (big (take 8 s))))
+    go true = zero_clear
+    go false = bits_clear (big (take 8 s))
 
 -- ---- the points
 
 abbrev pub ClearPoint : Point → Type 0
 ClearPoint p = Clear binary64 p.u × Clear binary64 p.v
 
-points-clear : (n : ℕ) (s : List ℕ) → All ClearPoint (points n s)
+points_clear : (n : ℕ) (s : List ℕ) → All ClearPoint (points n s)
 unfolding points
-points-clear zero s = tt
-points-clear (suc n) s = ((number-clear s, number-clear (drop 8 s)), points-clear n (drop 16 s))
+points_clear zero s = tt
+points_clear (suc n) s = ((number_clear s, number_clear (drop 8 s)), points_clear n (drop 16 s))
 
-coedges-clear : (n : ℕ) (s : List ℕ) → All ClearPoint (ringPoints (coedges n s))
-unfolding coedges coedge ringPoints flat_map
-coedges-clear zero s = tt
-coedges-clear (suc n) s = all-append ClearPoint (points 17 (drop 8 s)) (ringPoints (coedges n (drop 280 s))) (points-clear 17 (drop 8 s)) (coedges-clear n (drop 280 s))
+coedges_clear : (n : ℕ) (s : List ℕ) → All ClearPoint (ring_points (coedges n s))
+unfolding coedges coedge ring_points flat_map
+coedges_clear zero s = tt
+coedges_clear (suc n) s = all_append ClearPoint (points 17 (drop 8 s)) (ring_points (coedges n (drop 280 s))) (points_clear 17 (drop 8 s)) (coedges_clear n (drop 280 s))
 
-pub ring-clear : (b : List ℕ) → All ClearPoint (ringPoints (ring b))
+pub ring_clear : (b : List ℕ) → All ClearPoint (ring_points (ring b))
 unfolding ring
-ring-clear b = coedges-clear (get_or b 0 0) (drop 1 b)
+ring_clear b = coedges_clear (get_or b 0 0) (drop 1 b)
 
 -- ---- the deviations
 
 abbrev pub ClearDeviation : Coedge → Type 0
 ClearDeviation c = Clear binary64 c.deviation
 
-coedges-deviations : (n : ℕ) (s : List ℕ) → All ClearDeviation (coedges n s)
+coedges_deviations : (n : ℕ) (s : List ℕ) → All ClearDeviation (coedges n s)
 unfolding coedges coedge
-coedges-deviations zero s = tt
-coedges-deviations (suc n) s = (number-clear s, coedges-deviations n (drop 280 s))
+coedges_deviations zero s = tt
+coedges_deviations (suc n) s = (number_clear s, coedges_deviations n (drop 280 s))
 
-pub ring-deviations : (b : List ℕ) → All ClearDeviation (ring b)
+pub ring_deviations : (b : List ℕ) → All ClearDeviation (ring b)
 unfolding ring
-ring-deviations b = coedges-deviations (get_or b 0 0) (drop 1 b)
+ring_deviations b = coedges_deviations (get_or b 0 0) (drop 1 b)

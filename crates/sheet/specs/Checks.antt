@@ -4,105 +4,105 @@ use Rattle.std.specs.Prelude.{Bool, true, false, not, ◌&&◌, ◌||◌, ℕ, z
 use mathlib.Core.List.{List, [], ◌∷◌, foldl}
 use Rattle.std.specs.Float.{binary64}
 use Rattle.std.specs.Float.Ieee.{of_bits, lt, le}
-use Rattle.leaves.specs.Constants.{plusZero, deviationLimit}
+use Rattle.leaves.specs.Constants.{plus_zero, deviation_limit}
 use Rattle.sheet.specs.Content.{Point, Coedge, Sheet}
-use Rattle.answers.specs.Lists.{anyOf}
+use Rattle.answers.specs.Lists.{any_of}
 use Rattle.answers.specs.Outcome.{Check, check}
 use Rattle.answers.specs.Limits.{beyond}
-use Rattle.sheet.specs.Layout.{lengthField, version, kind, sense, ringCount, headSize, blockSize}
+use Rattle.sheet.specs.Layout.{length_field, version, kind, sense, ring_count, head_size, block_size}
 
 -- ---- 1: "under 8 bytes, or length field ≠ bytes after it"
-unfoldable pub lengthWrong : List ℕ → Bool
-lengthWrong s = ltb (length s) 8 || not (eqb (lengthField s) (length s - 4))
+unfoldable pub length_wrong : List ℕ → Bool
+length_wrong s = ltb (length s) 8 || not (eqb (length_field s) (length s - 4))
 
 -- ---- 2: "version ≠ 1"
-unfoldable pub versionWrong : List ℕ → Bool
-versionWrong s = not (eqb (version s) 1)
+unfoldable pub version_wrong : List ℕ → Bool
+version_wrong s = not (eqb (version s) 1)
 
 -- ---- 3: "kind above 6 or sense above 2"
-unfoldable pub kindWrong : List ℕ → Bool
-kindWrong s = ltb 6 (kind s) || ltb 2 (sense s)
+unfoldable pub kind_wrong : List ℕ → Bool
+kind_wrong s = ltb 6 (kind s) || ltb 2 (sense s)
 
 -- ---- 4: "ring count 0 or above 16"
 
-abbrev pub mostRings : ℕ
-mostRings = 16
+abbrev pub most_rings : ℕ
+most_rings = 16
 
-unfoldable pub countWrong : List ℕ → Bool
-countWrong s = eqb (ringCount s) 0 || ltb mostRings (ringCount s)
+unfoldable pub count_wrong : List ℕ → Bool
+count_wrong s = eqb (ring_count s) 0 || ltb most_rings (ring_count s)
 
 -- ---- 5: "plane or ring blocks overrun the end or leave bytes over"
 
 -- whether s is n blocks, one behind the other, and nothing more
 unfoldable pub fill : ℕ → List ℕ → Bool
-unfolding blockSize
+unfolding block_size
 fill zero s = eqb (length s) 0
-fill (suc n) s = leb (blockSize s) (length s) && fill n (drop (blockSize s) s)
+fill (suc n) s = leb (block_size s) (length s) && fill n (drop (block_size s) s)
 
-unfoldable pub blocksWrong : List ℕ → Bool
-unfolding fill headSize
-blocksWrong s = ltb (length s) (headSize (kind s)) || not (fill (ringCount s) (drop (headSize (kind s)) s))
+unfoldable pub blocks_wrong : List ℕ → Bool
+unfolding fill head_size
+blocks_wrong s = ltb (length s) (head_size (kind s)) || not (fill (ring_count s) (drop (head_size (kind s)) s))
 
 -- ---- 6: "a ring with 0 coedges, or over 128 in total"
 
-abbrev pub mostCoedges : ℕ
-mostCoedges = 128
+abbrev pub most_coedges : ℕ
+most_coedges = 128
 
 unfoldable pub empty : List Coedge → Bool
 empty [] = true
 empty (c ∷ cs) = false
 
-unfoldable pub coedgeTotal : List (List Coedge) → ℕ
-coedgeTotal rings = foldl (λ (n : ℕ) (r : List Coedge). n + length r) 0 rings
+unfoldable pub coedge_total : List (List Coedge) → ℕ
+coedge_total rings = foldl (λ (n : ℕ) (r : List Coedge). n + length r) 0 rings
 
-unfoldable pub coedgesWrong : List (List Coedge) → Bool
-unfolding anyOf empty coedgeTotal
-coedgesWrong rings = anyOf empty rings || ltb mostCoedges (coedgeTotal rings)
+unfoldable pub coedges_wrong : List (List Coedge) → Bool
+unfolding any_of empty coedge_total
+coedges_wrong rings = any_of empty rings || ltb most_coedges (coedge_total rings)
 
 -- ---- 7: "not finite; or magnitude above: 2^20 chart coordinate or origin, 2 axis component; or deviation below 0 or
 -- not below 0.002"
 
 -- 2^20
-abbrev pub coordinateLimit : Float
-coordinateLimit = of_bits binary64 0x4130000000000000
+abbrev pub coordinate_limit : Float
+coordinate_limit = of_bits binary64 0x4130000000000000
 
 -- 2
-abbrev pub axisLimit : Float
-axisLimit = of_bits binary64 0x4000000000000000
+abbrev pub axis_limit : Float
+axis_limit = of_bits binary64 0x4000000000000000
 
-unfoldable pub pointWrong : Point → Bool
+unfoldable pub point_wrong : Point → Bool
 unfolding beyond
-pointWrong p = beyond coordinateLimit p.u || beyond coordinateLimit p.v
+point_wrong p = beyond coordinate_limit p.u || beyond coordinate_limit p.v
 
-unfoldable pub coedgeWrong : Coedge → Bool
-unfolding le lt anyOf pointWrong
-coedgeWrong c = not (le plusZero c.deviation && lt c.deviation deviationLimit) || anyOf pointWrong c.points
+unfoldable pub coedge_wrong : Coedge → Bool
+unfolding le lt any_of point_wrong
+coedge_wrong c = not (le plus_zero c.deviation && lt c.deviation deviation_limit) || any_of point_wrong c.points
 
-unfoldable pub ringWrong : List Coedge → Bool
-unfolding anyOf coedgeWrong
-ringWrong ring = anyOf coedgeWrong ring
+unfoldable pub ring_wrong : List Coedge → Bool
+unfolding any_of coedge_wrong
+ring_wrong ring = any_of coedge_wrong ring
 
 -- origin, u axis, normal
-unfoldable pub planeWrong : List Float → Bool
-unfolding anyOf beyond
-planeWrong xs = anyOf (beyond coordinateLimit) (take 3 xs) || anyOf (beyond axisLimit) (drop 3 xs)
+unfoldable pub plane_wrong : List Float → Bool
+unfolding any_of beyond
+plane_wrong xs = any_of (beyond coordinate_limit) (take 3 xs) || any_of (beyond axis_limit) (drop 3 xs)
 
-unfoldable pub numbersWrong : Sheet → Bool
-unfolding planeWrong anyOf ringWrong
-numbersWrong s = planeWrong s.plane || anyOf ringWrong s.rings
+unfoldable pub numbers_wrong : Sheet → Bool
+unfolding plane_wrong any_of ring_wrong
+numbers_wrong s = plane_wrong s.plane || any_of ring_wrong s.rings
 
 -- ---- the table
 
-unfoldable pub layoutChecks : List ℕ → List Check
-unfolding lengthWrong versionWrong kindWrong countWrong blocksWrong
-layoutChecks s =
-    check 1 (lengthWrong s)
-    ∷ check 2 (versionWrong s)
-    ∷ check 3 (kindWrong s)
-    ∷ check 4 (countWrong s)
-    ∷ check 5 (blocksWrong s)
+unfoldable pub layout_checks : List ℕ → List Check
+unfolding length_wrong version_wrong kind_wrong count_wrong blocks_wrong
+layout_checks s =
+    check 1 (length_wrong s)
+    ∷ check 2 (version_wrong s)
+    ∷ check 3 (kind_wrong s)
+    ∷ check 4 (count_wrong s)
+    ∷ check 5 (blocks_wrong s)
     ∷ []
 
-unfoldable pub contentChecks : Sheet → List Check
-unfolding coedgesWrong numbersWrong
-contentChecks s = check 6 (coedgesWrong s.rings) ∷ check 7 (numbersWrong s) ∷ []
+unfoldable pub content_checks : Sheet → List Check
+unfolding coedges_wrong numbers_wrong
+content_checks s = check 6 (coedges_wrong s.rings) ∷ check 7 (numbers_wrong s) ∷ []

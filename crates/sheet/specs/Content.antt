@@ -18,9 +18,9 @@ pub record Sheet : Type 0 where
   pub rings : List (List Coedge)
 
 -- the points of a ring, in file order
-unfoldable pub ringPoints : List Coedge → List Point
+unfoldable pub ring_points : List Coedge → List Point
 unfolding flat_map
-ringPoints ring = flat_map (λ (c : Coedge). c.points) ring
+ring_points ring = flat_map (λ (c : Coedge). c.points) ring
 
 -- ---- points in a list of numbers: u, v of the first, u, v of the next, and so on
 
@@ -37,6 +37,6 @@ flat [] = []
 flat (p ∷ ps) = p.u ∷ p.v ∷ flat ps
 
 -- the list of numbers whose points are changed; a last number that is no point's stays
-unfoldable pub onPoints : (List Point → List Point) → List Float → List Float
+unfoldable pub on_points : (List Point → List Point) → List Float → List Float
 unfolding pairs flat
-onPoints change xs = flat (change (pairs xs)) ++ drop (2 * (length xs / 2)) xs
+on_points change xs = flat (change (pairs xs)) ++ drop (2 * (length xs / 2)) xs

@@ -4,7 +4,7 @@ use Rattle.std.specs.Prelude.{cond, ℕ, zero, suc, ◌+◌, ◌*◌, ◌%◌, �
 use mathlib.Core.List.{List, [], ◌∷◌, map, foldl}
 use Rattle.std.specs.Float.{binary64}
 use Rattle.std.specs.Float.Ieee.{of_bits}
-use Rattle.leaves.specs.Constants.{plusZero}
+use Rattle.leaves.specs.Constants.{plus_zero}
 use Rattle.sheet.specs.Content.{Point, point, Coedge, Sheet}
 
 -- ---- numbers
@@ -14,14 +14,14 @@ unfoldable pub big : List ℕ → ℕ
 big s = foldl (λ (n b : ℕ). n * 256 + b) 0 s
 
 -- an f64 by its bits; "A −0 is read as +0"
-unfoldable pub numberOf : ℕ → Float
+unfoldable pub number_of : ℕ → Float
 unfolding of_bits
-numberOf bits = cond (eqb (bits % 2 ^ 63) 0) plusZero (of_bits binary64 bits)
+number_of bits = cond (eqb (bits % 2 ^ 63) 0) plus_zero (of_bits binary64 bits)
 
 -- the f64 that s begins with; +0 where fewer than eight bytes are left
 unfoldable pub number : List ℕ → Float
-unfolding numberOf big
-number s = cond (ltb (length s) 8) plusZero (numberOf (big (take 8 s)))
+unfolding number_of big
+number s = cond (ltb (length s) 8) plus_zero (number_of (big (take 8 s)))
 
 -- the first n of them
 unfoldable pub numbers : ℕ → List ℕ → List Float
@@ -31,8 +31,8 @@ numbers (suc n) s = number s ∷ numbers n (drop 8 s)
 
 -- ---- "length of what follows (4 bytes), version 1 (1), kind (1), sense (1), ring count (1)"
 
-abbrev pub lengthField : List ℕ → ℕ
-lengthField s = big (take 4 s)
+abbrev pub length_field : List ℕ → ℕ
+length_field s = big (take 4 s)
 
 abbrev pub version : List ℕ → ℕ
 version s = get_or s 4 0
@@ -43,17 +43,17 @@ kind s = get_or s 5 0
 abbrev pub sense : List ℕ → ℕ
 sense s = get_or s 6 0
 
-abbrev pub ringCount : List ℕ → ℕ
-ringCount s = get_or s 7 0
+abbrev pub ring_count : List ℕ → ℕ
+ring_count s = get_or s 7 0
 
 -- "Only kind 0 then has origin, u axis and normal, three f64 each (72 bytes)": what stands before the ring blocks has
 -- so many bytes
-unfoldable pub headSize : ℕ → ℕ
-headSize k = cond (eqb k 0) 80 8
+unfoldable pub head_size : ℕ → ℕ
+head_size k = cond (eqb k 0) 80 8
 
 unfoldable pub head : List ℕ → List ℕ
-unfolding headSize
-head s = take (headSize (kind s)) s
+unfolding head_size
+head s = take (head_size (kind s)) s
 
 unfoldable pub plane : List ℕ → List Float
 unfolding numbers
@@ -62,19 +62,19 @@ plane s = cond (eqb (kind s) 0) (numbers 9 (drop 8 s)) []
 -- ---- "Each ring block: coedge count c (1 byte), then c coedges of 280 bytes: deviation, then 17 points (u, v)"
 
 -- the size of the block that s begins with
-unfoldable pub blockSize : List ℕ → ℕ
-blockSize s = 1 + 280 * get_or s 0 0
+unfoldable pub block_size : List ℕ → ℕ
+block_size s = 1 + 280 * get_or s 0 0
 
 -- the first n blocks of s, one behind the other
 unfoldable pub cut : ℕ → List ℕ → List (List ℕ)
-unfolding blockSize
+unfolding block_size
 cut zero s = []
-cut (suc n) s = take (blockSize s) s ∷ cut n (drop (blockSize s) s)
+cut (suc n) s = take (block_size s) s ∷ cut n (drop (block_size s) s)
 
 -- the ring blocks of a sheet
 unfoldable pub blocks : List ℕ → List (List ℕ)
-unfolding cut headSize
-blocks s = cut (ringCount s) (drop (headSize (kind s)) s)
+unfolding cut head_size
+blocks s = cut (ring_count s) (drop (head_size (kind s)) s)
 
 -- n points, one behind the other
 unfoldable pub points : ℕ → List ℕ → List Point
@@ -97,6 +97,6 @@ ring block = coedges (get_or block 0 0) (drop 1 block)
 
 -- ---- the whole
 
-unfoldable pub sheetOf : List ℕ → Sheet
+unfoldable pub sheet_of : List ℕ → Sheet
 unfolding plane blocks ring
-sheetOf s = record { kind = kind s; sense = sense s; plane = plane s; rings = map ring (blocks s) }
+sheet_of s = record { kind = kind s; sense = sense s; plane = plane s; rings = map ring (blocks s) }

@@ -1,7 +1,7 @@
 // The refusals 1 to 7, in the table's order.
 ghost use Rattle.std.specs.Prelude.{◌≡◌, true, false, ◌++◌};
-ghost use Rattle.sheet.specs.Layout.{plane, sheetOf};
-ghost use Rattle.sheet.specs.Checks.{lengthWrong, versionWrong, kindWrong, countWrong, blocksWrong, planeWrong, layoutChecks, contentChecks};
+ghost use Rattle.sheet.specs.Layout.{plane, sheet_of};
+ghost use Rattle.sheet.specs.Checks.{length_wrong, version_wrong, kind_wrong, count_wrong, blocks_wrong, plane_wrong, layout_checks, content_checks};
 ghost use Rattle.answers.specs.Outcome.{first};
 
 use crate::fields::{byte_at, head_size, word};
@@ -12,7 +12,7 @@ const AXIS_LIMIT: f64 = 2.0;
 
 // 1: under 8 bytes, or a length field that is not the number of bytes after it.
 fn length_wrong(s: &[u8]) -> bool
-    ensures { result ≡ lengthWrong s.now }
+    ensures { result ≡ length_wrong s.now }
 {
     if s.len() < 8 {
         true
@@ -23,14 +23,14 @@ fn length_wrong(s: &[u8]) -> bool
 
 // 2: a version other than 1.
 fn version_wrong(s: &[u8]) -> bool
-    ensures { result ≡ versionWrong s.now }
+    ensures { result ≡ version_wrong s.now }
 {
     byte_at(s, 4) != 1
 }
 
 // 3: a kind above 6 or a sense above 2.
 fn kind_wrong(s: &[u8]) -> bool
-    ensures { result ≡ kindWrong s.now }
+    ensures { result ≡ kind_wrong s.now }
 {
     if 6 < byte_at(s, 5) {
         true
@@ -41,7 +41,7 @@ fn kind_wrong(s: &[u8]) -> bool
 
 // 4: no ring, or more than 16.
 fn count_wrong(s: &[u8]) -> bool
-    ensures { result ≡ countWrong s.now }
+    ensures { result ≡ count_wrong s.now }
 {
     if byte_at(s, 7) == 0 {
         true
@@ -52,7 +52,7 @@ fn count_wrong(s: &[u8]) -> bool
 
 // 5: plane or ring blocks that overrun the end or leave bytes over.
 fn blocks_wrong(s: &[u8]) -> bool
-    ensures { result ≡ blocksWrong s.now }
+    ensures { result ≡ blocks_wrong s.now }
 {
     let from = head_size(byte_at(s, 5));
     if s.len() < from {
@@ -64,7 +64,7 @@ fn blocks_wrong(s: &[u8]) -> bool
 
 // 7, of a plane's origin, u axis and normal.
 fn plane_wrong(s: &[u8]) -> bool
-    ensures { result ≡ planeWrong (plane s.now) }
+    ensures { result ≡ plane_wrong (plane s.now) }
 {
     if byte_at(s, 5) == 0 {
         if any_beyond(COORDINATE_LIMIT, s, 8, 3) {
@@ -79,7 +79,7 @@ fn plane_wrong(s: &[u8]) -> bool
 
 // The number of the first check of 1 to 7 that fails, 0 where none does.
 pub fn refusal(s: &[u8]) -> u32
-    ensures { result ≡ first (layoutChecks s.now ++ contentChecks (sheetOf s.now)) }
+    ensures { result ≡ first (layout_checks s.now ++ content_checks (sheet_of s.now)) }
 {
     if length_wrong(s) {
         return 1;

@@ -1,6 +1,6 @@
 // The fields of a sheet of version 1.
 ghost use Rattle.std.specs.Prelude.{◌≡◌, ◌+◌, ◌<◌, ◌≤◌, length, get_or, take, drop};
-ghost use Rattle.sheet.specs.Layout.{big, number as number_at, numberOf, headSize, blockSize};
+ghost use Rattle.sheet.specs.Layout.{big, number as number_at, number_of, head_size, block_size};
 
 // Ring blocks of a sheet, and coedges of all of them together, at most.
 pub const MOST_RINGS: usize = 16;
@@ -51,7 +51,7 @@ pub(crate) fn word(s: &[u8], at: usize) -> u64
 
 // The f64 of these bits; -0 as +0. from_bits takes no NaN's pattern, so a NaN is made anew.
 fn float(bits: u64) -> f64
-    ensures { result ≡ numberOf bits }
+    ensures { result ≡ number_of bits }
 {
     if bits % 0x8000_0000_0000_0000 == 0 {
         0.0
@@ -77,14 +77,14 @@ pub fn number(s: &[u8], at: usize) -> f64
 
 // How many bytes stand before the ring blocks: a plane has nine numbers there.
 pub fn head_size(kind: u8) -> usize
-    ensures { result ≡ headSize kind }
+    ensures { result ≡ head_size kind }
 {
     if kind == 0 { 80 } else { 8 }
 }
 
 // The size of the ring block that starts at a place.
 pub fn block_size(s: &[u8], at: usize) -> usize
-    ensures { result ≡ blockSize (drop at s.now) }
+    ensures { result ≡ block_size (drop at s.now) }
 {
     BLOCK_HEAD + COEDGE_SIZE * (byte_at(s, at) as usize)
 }

@@ -1,9 +1,9 @@
 // The checks that walk over the ring blocks and their numbers. A walk goes from block to block by the
 // coedge counts alone, so it reaches every block whatever stands in it.
 ghost use Rattle.std.specs.Prelude.{◌≡◌, true, map, ◌+◌, ◌*◌, ◌≤◌, length, drop};
-ghost use Rattle.answers.specs.Lists.{anyOf};
+ghost use Rattle.answers.specs.Lists.{any_of};
 ghost use Rattle.sheet.specs.Layout.{ring, cut, coedge, numbers};
-ghost use Rattle.sheet.specs.Checks.{fill, coedgeWrong, ringWrong, coedgesWrong};
+ghost use Rattle.sheet.specs.Checks.{fill, coedge_wrong, ring_wrong, coedges_wrong};
 ghost use Rattle.answers.specs.Limits.{beyond};
 
 use crate::fields::{
@@ -17,7 +17,7 @@ pub(crate) const COORDINATE_LIMIT: f64 = 1048576.0;
 // Whether any of `count` numbers from `from` on is beyond the limit.
 pub(crate) fn any_beyond(limit: f64, s: &[u8], from: usize, count: usize) -> bool
     requires { (from ≤ 100000) × (count ≤ 34) }
-    ensures { result ≡ anyOf (beyond limit) (numbers count (drop from s.now)) }
+    ensures { result ≡ any_of (beyond limit) (numbers count (drop from s.now)) }
 {
     let mut k = 0;
     while k < count {
@@ -32,7 +32,7 @@ pub(crate) fn any_beyond(limit: f64, s: &[u8], from: usize, count: usize) -> boo
 // Check 7 of the coedge that stands at `at`.
 fn coedge_wrong(block: &[u8], at: usize) -> bool
     requires { at ≤ 80000 }
-    ensures { result ≡ coedgeWrong (coedge (drop at block.now)) }
+    ensures { result ≡ coedge_wrong (coedge (drop at block.now)) }
 {
     let deviation = number(block, at);
     if 0.0 <= deviation {
@@ -45,7 +45,7 @@ fn coedge_wrong(block: &[u8], at: usize) -> bool
 
 // Check 7 of a ring, whose block is a part of the sheet.
 fn ring_wrong(block: &[u8]) -> bool
-    ensures { result ≡ ringWrong (ring block.now) }
+    ensures { result ≡ ring_wrong (ring block.now) }
 {
     let count = byte_at(block, 0) as usize;
     let mut k = 0;
@@ -79,7 +79,7 @@ pub(crate) fn blocks_fill(s: &[u8], from: usize, count: u8) -> bool
 // Check 6 of the rings whose blocks stand from `from` on.
 pub(crate) fn coedges_wrong(s: &[u8], from: usize, count: u8) -> bool
     requires { from ≤ 80 }
-    ensures { result ≡ coedgesWrong (map ring (cut count (drop from s.now))) }
+    ensures { result ≡ coedges_wrong (map ring (cut count (drop from s.now))) }
 {
     let mut at = from;
     let mut total: usize = 0;
@@ -99,7 +99,7 @@ pub(crate) fn coedges_wrong(s: &[u8], from: usize, count: u8) -> bool
 // Check 7 of the rings whose blocks stand from `from` on.
 pub(crate) fn rings_wrong(s: &[u8], from: usize, count: u8) -> bool
     requires { (from ≤ length s.now) × (fill count (drop from s.now) ≡ true) }
-    ensures { result ≡ anyOf ringWrong (map ring (cut count (drop from s.now))) }
+    ensures { result ≡ any_of ring_wrong (map ring (cut count (drop from s.now))) }
 {
     let mut at = from;
     let mut k: u8 = 0;

@@ -3,73 +3,73 @@
 use Rattle.std.specs.Prelude.{Bool, not, ◌||◌, List, [], ℕ, ltb, Float, get_or}
 use Rattle.std.specs.Float.{nan, binary64}
 use Rattle.std.specs.Float.Ieee.{sub, mul, lt}
-use Rattle.leaves.specs.Bounds.{exceedsOf}
-use Rattle.leaves.specs.Constants.{plusZero, pi, micro, endLimit}
-use Rattle.space.specs.Places.{placeAt}
-use Rattle.space.specs.Vectors.{minusOf, distanceOf, lengthOf, unitOf, unitFails}
+use Rattle.leaves.specs.Bounds.{exceeds_of}
+use Rattle.leaves.specs.Constants.{plus_zero, pi, micro, end_limit}
+use Rattle.space.specs.Places.{place_at}
+use Rattle.space.specs.Vectors.{minus_of, distance_of, length_of, unit_of, unit_fails}
 use Rattle.space.specs.declared.vectors.Place.{Place}
-use Rattle.answers.specs.Limits.{beyond, argumentLimit}
-use Rattle.answers.specs.Lists.{anyOf}
+use Rattle.answers.specs.Limits.{beyond, argument_limit}
+use Rattle.answers.specs.Lists.{any_of}
 
 -- ---- the arrays: three sides by two ends by three coordinates; three circles by centre and radius; three ranges by
 -- two ends
 
 -- an end of a side
-abbrev pub endOf : List (List Float) → ℕ → Place
-endOf ends k = placeAt (get_or ends k []) 0
+abbrev pub end_of : List (List Float) → ℕ → Place
+end_of ends k = place_at (get_or ends k []) 0
 
 -- ---- 16: "a number not finite or above 2^20 in magnitude, r not above 0, sense above 2"
 
-unfoldable pub placeBeyond : Place → Bool
-placeBeyond p = beyond argumentLimit p.x || beyond argumentLimit p.y || beyond argumentLimit p.z
+unfoldable pub place_beyond : Place → Bool
+place_beyond p = beyond argument_limit p.x || beyond argument_limit p.y || beyond argument_limit p.z
 
-unfoldable pub sphereWrong : Place → Float → ℕ → Bool
-unfolding placeBeyond lt
-sphereWrong centre radius sense = placeBeyond centre || beyond argumentLimit radius || not (lt plusZero radius) || ltb 2 sense
+unfoldable pub sphere_wrong : Place → Float → ℕ → Bool
+unfolding place_beyond lt
+sphere_wrong centre radius sense = place_beyond centre || beyond argument_limit radius || not (lt plus_zero radius) || ltb 2 sense
 
-unfoldable pub sidesBeyond : List (List (List Float)) → List (List Float) → List (List Float) → List (List (List Float)) → Bool
-sidesBeyond ends circles ranges evaluated =
-    anyOf (anyOf (anyOf (beyond argumentLimit))) ends
-    || anyOf (anyOf (beyond argumentLimit)) circles
-    || anyOf (anyOf (beyond argumentLimit)) ranges
-    || anyOf (anyOf (anyOf (beyond argumentLimit))) evaluated
+unfoldable pub sides_beyond : List (List (List Float)) → List (List Float) → List (List Float) → List (List (List Float)) → Bool
+sides_beyond ends circles ranges evaluated =
+    any_of (any_of (any_of (beyond argument_limit))) ends
+    || any_of (any_of (beyond argument_limit)) circles
+    || any_of (any_of (beyond argument_limit)) ranges
+    || any_of (any_of (any_of (beyond argument_limit))) evaluated
 
 -- ---- 17: "circle centre or radius off by over r × 1e-6; sweep over PI; an evaluated end off its end, or an end off
 -- the sphere, by over r × 1e-5; `unit` fails"
 
-unfoldable pub circleWrong : Place → Float → Place → Float → Bool
+unfoldable pub circle_wrong : Place → Float → Place → Float → Bool
 unfolding lt sub mul
-circleWrong centre radius circle circleRadius = lt (mul binary64 radius micro) (distanceOf circle centre) || exceedsOf (sub binary64 circleRadius radius) (mul binary64 radius micro)
+circle_wrong centre radius circle circle_radius = lt (mul binary64 radius micro) (distance_of circle centre) || exceeds_of (sub binary64 circle_radius radius) (mul binary64 radius micro)
 
-unfoldable pub sweepWrong : Float → Float → Bool
+unfoldable pub sweep_wrong : Float → Float → Bool
 unfolding sub
-sweepWrong from to = exceedsOf (sub binary64 to from) pi
+sweep_wrong from to = exceeds_of (sub binary64 to from) pi
 
 -- an end, as the edge has it, and the host's evaluated one
-unfoldable pub endWrong : Place → Float → Place → Place → Bool
+unfoldable pub end_wrong : Place → Float → Place → Place → Bool
 unfolding lt sub mul
-endWrong centre radius end evaluated =
-    lt (mul binary64 radius endLimit) (distanceOf evaluated end)
-    || exceedsOf (sub binary64 (lengthOf (minusOf end centre)) radius) (mul binary64 radius endLimit)
-    || unitFails (unitOf (minusOf end centre))
+end_wrong centre radius end evaluated =
+    lt (mul binary64 radius end_limit) (distance_of evaluated end)
+    || exceeds_of (sub binary64 (length_of (minus_of end centre)) radius) (mul binary64 radius end_limit)
+    || unit_fails (unit_of (minus_of end centre))
 
 -- a side
-unfoldable pub sideWrong : Place → Float → List (List Float) → List Float → List Float → List (List Float) → Bool
-unfolding circleWrong sweepWrong endWrong
-sideWrong centre radius ends circle range evaluated =
-    circleWrong centre radius (placeAt circle 0) (get_or circle 3 nan)
-    || sweepWrong (get_or range 0 nan) (get_or range 1 nan)
-    || endWrong centre radius (endOf ends 0) (endOf evaluated 0)
-    || endWrong centre radius (endOf ends 1) (endOf evaluated 1)
+unfoldable pub side_wrong : Place → Float → List (List Float) → List Float → List Float → List (List Float) → Bool
+unfolding circle_wrong sweep_wrong end_wrong
+side_wrong centre radius ends circle range evaluated =
+    circle_wrong centre radius (place_at circle 0) (get_or circle 3 nan)
+    || sweep_wrong (get_or range 0 nan) (get_or range 1 nan)
+    || end_wrong centre radius (end_of ends 0) (end_of evaluated 0)
+    || end_wrong centre radius (end_of ends 1) (end_of evaluated 1)
 
 -- the kth of the three
-unfoldable pub sideWrongAt : ℕ → Place → Float → List (List (List Float)) → List (List Float) → List (List Float) → List (List (List Float)) → Bool
-unfolding sideWrong
-sideWrongAt k centre radius ends circles ranges evaluated = sideWrong centre radius (get_or ends k []) (get_or circles k []) (get_or ranges k []) (get_or evaluated k [])
+unfoldable pub side_wrong_at : ℕ → Place → Float → List (List (List Float)) → List (List Float) → List (List Float) → List (List (List Float)) → Bool
+unfolding side_wrong
+side_wrong_at k centre radius ends circles ranges evaluated = side_wrong centre radius (get_or ends k []) (get_or circles k []) (get_or ranges k []) (get_or evaluated k [])
 
-unfoldable pub sidesWrong : Place → Float → List (List (List Float)) → List (List Float) → List (List Float) → List (List (List Float)) → Bool
-unfolding sideWrongAt
-sidesWrong centre radius ends circles ranges evaluated =
-    sideWrongAt 0 centre radius ends circles ranges evaluated
-    || sideWrongAt 1 centre radius ends circles ranges evaluated
-    || sideWrongAt 2 centre radius ends circles ranges evaluated
+unfoldable pub sides_wrong : Place → Float → List (List (List Float)) → List (List Float) → List (List Float) → List (List (List Float)) → Bool
+unfolding side_wrong_at
+sides_wrong centre radius ends circles ranges evaluated =
+    side_wrong_at 0 centre radius ends circles ranges evaluated
+    || side_wrong_at 1 centre radius ends circles ranges evaluated
+    || side_wrong_at 2 centre radius ends circles ranges evaluated

@@ -1,10 +1,10 @@
 // The sphere and the sides of a triangle, as `spherical_triangle` of uv.rs checks them.
 ghost use Rattle.std.specs.Prelude.{◌||◌, ◌≡◌, get_or};
 ghost use Rattle.std.specs.Float.{nan};
-ghost use Rattle.space.specs.Places.{placeAt};
-ghost use Rattle.answers.specs.Limits.{beyond, argumentLimit};
-ghost use Rattle.answers.specs.Lists.{anyOf};
-ghost use Rattle.sides.specs.Sides.{placeBeyond, sphereWrong, sidesBeyond, circleWrong, endWrong, sideWrong, sidesWrong};
+ghost use Rattle.space.specs.Places.{place_at};
+ghost use Rattle.answers.specs.Limits.{beyond, argument_limit};
+ghost use Rattle.answers.specs.Lists.{any_of};
+ghost use Rattle.sides.specs.Sides.{place_beyond, sphere_wrong, sides_beyond, circle_wrong, end_wrong, side_wrong, sides_wrong};
 
 use answers::{ARGUMENT_LIMIT, any_number_beyond, is_beyond};
 use leaves::constants::{END_LIMIT, MICRO, PI};
@@ -12,7 +12,7 @@ use space::Place;
 
 // Three coordinates as a place.
 pub fn place_of(p: [f64; 3]) -> Place
-    ensures { result ≡ placeAt p 0 }
+    ensures { result ≡ place_at p 0 }
 {
     Place {
         x: p[0],
@@ -22,7 +22,7 @@ pub fn place_of(p: [f64; 3]) -> Place
 }
 
 fn place_beyond(p: Place) -> bool
-    ensures { result ≡ placeBeyond p }
+    ensures { result ≡ place_beyond p }
 {
     if is_beyond(ARGUMENT_LIMIT, p.x) {
         true
@@ -35,7 +35,7 @@ fn place_beyond(p: Place) -> bool
 
 // 16, of the sphere.
 pub fn sphere_wrong(centre: Place, radius: f64, sense: u32) -> bool
-    ensures { result ≡ sphereWrong centre radius sense }
+    ensures { result ≡ sphere_wrong centre radius sense }
 {
     if place_beyond(centre) {
         true
@@ -50,7 +50,7 @@ pub fn sphere_wrong(centre: Place, radius: f64, sense: u32) -> bool
 
 // 16, of a side's ends, or of the evaluated ones.
 fn ends_beyond(ends: [[f64; 3]; 2]) -> bool
-    ensures { result ≡ anyOf (anyOf (beyond argumentLimit)) ends }
+    ensures { result ≡ any_of (any_of (beyond argument_limit)) ends }
 {
     if any_number_beyond(ARGUMENT_LIMIT, &ends[0]) {
         true
@@ -66,7 +66,7 @@ fn side_beyond(
     range: [f64; 2],
     evaluated: [[f64; 3]; 2],
 ) -> bool
-    ensures { result ≡ (anyOf (anyOf (beyond argumentLimit)) ends || anyOf (beyond argumentLimit) circle || anyOf (beyond argumentLimit) range || anyOf (anyOf (beyond argumentLimit)) evaluated) }
+    ensures { result ≡ (any_of (any_of (beyond argument_limit)) ends || any_of (beyond argument_limit) circle || any_of (beyond argument_limit) range || any_of (any_of (beyond argument_limit)) evaluated) }
 {
     if ends_beyond(ends) {
         true
@@ -86,7 +86,7 @@ pub fn sides_beyond(
     ranges: [[f64; 2]; 3],
     evaluated: [[[f64; 3]; 2]; 3],
 ) -> bool
-    ensures { result ≡ sidesBeyond ends circles ranges evaluated }
+    ensures { result ≡ sides_beyond ends circles ranges evaluated }
 {
     if side_beyond(ends[0], circles[0], ranges[0], evaluated[0]) {
         true
@@ -99,7 +99,7 @@ pub fn sides_beyond(
 
 // 17: the circle's centre or radius is off the sphere's by over r x 1e-6.
 fn circle_wrong(centre: Place, radius: f64, circle: [f64; 4]) -> bool
-    ensures { result ≡ circleWrong centre radius (placeAt circle 0) (get_or circle 3 nan) }
+    ensures { result ≡ circle_wrong centre radius (place_at circle 0) (get_or circle 3 nan) }
 {
     let limit = radius * MICRO;
     let p = Place {
@@ -116,7 +116,7 @@ fn circle_wrong(centre: Place, radius: f64, circle: [f64; 4]) -> bool
 
 // 17: an evaluated end is off its end, or the end off the sphere, by over r x 1e-5, or `unit` fails.
 fn end_wrong(centre: Place, radius: f64, end: [f64; 3], evaluated: [f64; 3]) -> bool
-    ensures { result ≡ endWrong centre radius (placeAt end 0) (placeAt evaluated 0) }
+    ensures { result ≡ end_wrong centre radius (place_at end 0) (place_at evaluated 0) }
 {
     let limit = radius * END_LIMIT;
     let p = place_of(end);
@@ -139,7 +139,7 @@ fn side_wrong(
     range: [f64; 2],
     evaluated: [[f64; 3]; 2],
 ) -> bool
-    ensures { result ≡ sideWrong centre radius ends circle range evaluated }
+    ensures { result ≡ side_wrong centre radius ends circle range evaluated }
 {
     if circle_wrong(centre, radius, circle) {
         true
@@ -161,7 +161,7 @@ pub fn sides_wrong(
     ranges: [[f64; 2]; 3],
     evaluated: [[[f64; 3]; 2]; 3],
 ) -> bool
-    ensures { result ≡ sidesWrong centre radius ends circles ranges evaluated }
+    ensures { result ≡ sides_wrong centre radius ends circles ranges evaluated }
 {
     if side_wrong(centre, radius, ends[0], circles[0], ranges[0], evaluated[0]) {
         true

@@ -6,21 +6,21 @@ use native.Mathlib.Omega.{arith}
 use lib.Ieee.{Float, nan, binary64, of_bits, div}
 use lib.ListN.{length, drop, get_or, length-drop, get_or-eq_default}
 use lib.Seq.{drop-cons}
-use Rattle.leaves.specs.Constants.{plusZero}
-use Rattle.space.specs.Places.{triples, placeAt}
+use Rattle.leaves.specs.Constants.{plus_zero}
+use Rattle.space.specs.Places.{triples, place_at}
 
 -- ---- past the end, where a 0 over a 0 stands in the code
 
-pub past-end : (xs : List Float) {n : ℕ} → length xs ≤ n → div binary64 plusZero plusZero ≡ get_or xs n nan
+pub past_end : (xs : List Float) {n : ℕ} → length xs ≤ n → div binary64 plus_zero plus_zero ≡ get_or xs n nan
 unfolding div of_bits
-past-end xs h = sym (get_or-eq_default xs nan h)
+past_end xs h = sym (get_or-eq_default xs nan h)
 
 -- ---- one after the other
 
 -- another place stands at 3 * k
-pub triples-step : (xs : List Float) (k : ℕ) → 3 * k + 2 < length xs → triples (drop (3 * k) xs) ≡ placeAt xs (3 * k) ∷ triples (drop (3 * (k + 1)) xs)
+pub triples_step : (xs : List Float) (k : ℕ) → 3 * k + 2 < length xs → triples (drop (3 * k) xs) ≡ place_at xs (3 * k) ∷ triples (drop (3 * (k + 1)) xs)
 unfolding triples
-triples-step xs k h =
+triples_step xs k h =
     let e : 3 * (k + 1) ≡ suc (suc (suc (3 * k))) = omega arith in
     let s : 3 * k + 1 ≡ suc (3 * k) = omega arith in
     let t : 3 * k + 2 ≡ suc (suc (3 * k)) = omega arith in
@@ -37,7 +37,7 @@ short (x ∷ []) h = refl
 short (x ∷ y ∷ []) h = refl
 short (x ∷ y ∷ z ∷ xs) h = absurd (omega arith)
 
-pub triples-end : (xs : List Float) (k : ℕ) → length xs / 3 ≤ k → triples (drop (3 * k) xs) ≡ []
-triples-end xs k h = short (drop (3 * k) xs) (simp length-drop (omega arith))
+pub triples_end : (xs : List Float) (k : ℕ) → length xs / 3 ≤ k → triples (drop (3 * k) xs) ≡ []
+triples_end xs k h = short (drop (3 * k) xs) (simp length-drop (omega arith))
 
 -- ---- written

@@ -11,5 +11,5 @@ triples (x ∷ y ∷ []) = []
 triples (x ∷ y ∷ z ∷ rest) = place x y z ∷ triples rest
 
 -- the place whose three numbers begin at n; a number past the list's end is a NaN
-abbrev pub placeAt : List Float → ℕ → Place
-placeAt xs n = place (get_or xs n nan) (get_or xs (n + 1) nan) (get_or xs (n + 2) nan)
+abbrev pub place_at : List Float → ℕ → Place
+place_at xs n = place (get_or xs n nan) (get_or xs (n + 1) nan) (get_or xs (n + 2) nan)

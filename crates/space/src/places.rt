@@ -1,7 +1,7 @@
 // Places in a list of numbers: x, y, z of the first, x, y, z of the next, and so on.
 ghost use Rattle.std.specs.Prelude.{◌≡◌, get_or};
 ghost use Rattle.std.specs.Float.{nan};
-ghost use Rattle.space.specs.Places.{placeAt};
+ghost use Rattle.space.specs.Places.{place_at};
 
 use crate::vectors::Place;
 
@@ -14,7 +14,7 @@ fn number_at(list: &[f64], at: usize) -> f64
 
 // The place whose three numbers begin at `at`; a number past the list's end is a NaN.
 pub fn place_at(list: &[f64], at: usize) -> Place
-    ensures { result ≡ placeAt list.now at }
+    ensures { result ≡ place_at list.now at }
 {
     if at < list.len() {
         Place {

@@ -1,6 +1,6 @@
 // Differences, products and lengths, operation by operation as in sketch.rs.
 ghost use Rattle.std.specs.Prelude.{◌≡◌};
-ghost use Rattle.space.specs.Vectors.{minusOf, dotOf, crossOf, distanceOf, lengthOf, unitServes, over as overOf, unitOf, unitFails, alongOf};
+ghost use Rattle.space.specs.Vectors.{minus_of, dot_of, cross_of, distance_of, length_of, unit_serves, over as over_of, unit_of, unit_fails, along_of};
 
 use leaves::constants::PARALLEL;
 
@@ -19,7 +19,7 @@ pub enum UnitVector {
 }
 
 pub fn minus(a: Place, b: Place) -> Place
-    ensures { result ≡ minusOf a b }
+    ensures { result ≡ minus_of a b }
 {
     Place {
         x: a.x - b.x,
@@ -29,13 +29,13 @@ pub fn minus(a: Place, b: Place) -> Place
 }
 
 pub fn dot(a: Place, b: Place) -> f64
-    ensures { result ≡ dotOf a b }
+    ensures { result ≡ dot_of a b }
 {
     a.x * b.x + a.y * b.y + a.z * b.z
 }
 
 pub fn cross(a: Place, b: Place) -> Place
-    ensures { result ≡ crossOf a b }
+    ensures { result ≡ cross_of a b }
 {
     Place {
         x: a.y * b.z - a.z * b.y,
@@ -46,21 +46,21 @@ pub fn cross(a: Place, b: Place) -> Place
 
 // The three-term hypotenuse of a - b.
 pub fn distance(a: Place, b: Place) -> f64
-    ensures { result ≡ distanceOf a b }
+    ensures { result ≡ distance_of a b }
 {
     leaves::hypot3(a.x - b.x, a.y - b.y, a.z - b.z)
 }
 
 // The root of v dot v; no hypotenuse.
 pub fn length(v: Place) -> f64
-    ensures { result ≡ lengthOf v }
+    ensures { result ≡ length_of v }
 {
     leaves::root(dot(v, v))
 }
 
 // Whether a vector of this length has a unit: it is above PARALLEL and finite.
 fn serves(length: f64) -> bool
-    ensures { result ≡ unitServes length }
+    ensures { result ≡ unit_serves length }
 {
     if PARALLEL < length {
         length < 1.0 / 0.0
@@ -71,7 +71,7 @@ fn serves(length: f64) -> bool
 
 // Each coordinate over the length.
 fn over(v: Place, length: f64) -> Place
-    ensures { result ≡ overOf v length }
+    ensures { result ≡ over_of v length }
 {
     Place {
         x: v.x / length,
@@ -82,7 +82,7 @@ fn over(v: Place, length: f64) -> Place
 
 // The vector of length one along v, where v is longer than PARALLEL and its length finite.
 pub fn unit(v: Place) -> UnitVector
-    ensures { result ≡ unitOf v }
+    ensures { result ≡ unit_of v }
 {
     let size = length(v);
     if serves(size) {
@@ -94,7 +94,7 @@ pub fn unit(v: Place) -> UnitVector
 
 // Whether there is none.
 pub fn fails(v: UnitVector) -> bool
-    ensures { result ≡ unitFails v }
+    ensures { result ≡ unit_fails v }
 {
     match v {
         UnitVector::Along(_) => false,
@@ -104,7 +104,7 @@ pub fn fails(v: UnitVector) -> bool
 
 // The vector; zeros where there is none.
 pub fn along(v: UnitVector) -> Place
-    ensures { result ≡ alongOf v }
+    ensures { result ≡ along_of v }
 {
     match v {
         UnitVector::Along(p) => p,

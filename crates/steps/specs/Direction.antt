@@ -3,33 +3,33 @@
 -- image, the last image, the start, the end, three coordinates each.
 use Rattle.std.specs.Prelude.{Bool, cond, ◌&&◌, List, [], ◌∷◌, Float}
 use Rattle.std.specs.Float.Ieee.{lt}
-use Rattle.leaves.specs.Constants.{plusZero, greatestFinite, joinLimit}
-use Rattle.space.specs.Places.{placeAt}
-use Rattle.space.specs.Vectors.{distanceOf}
+use Rattle.leaves.specs.Constants.{plus_zero, greatest_finite, join_limit}
+use Rattle.space.specs.Places.{place_at}
+use Rattle.space.specs.Vectors.{distance_of}
 use Rattle.space.specs.declared.vectors.Place.{Place}
 use Rattle.answers.specs.Outcome.{check, first, Numbers, settled}
 use Rattle.answers.specs.Answers.{valued, yes}
 use Rattle.answers.specs.Limits.{missing}
 
 -- "the last image is nearer the start": of the first image, the last one, and the start
-unfoldable pub reversesOf : Place → Place → Place → Bool
+unfoldable pub reverses_of : Place → Place → Place → Bool
 unfolding lt
-reversesOf front back start = lt (distanceOf back start) (distanceOf front start)
+reverses_of front back start = lt (distance_of back start) (distance_of front start)
 
 -- "then both ends lie nearer than 1e-4": of the first image and the last one, as they are after the reversal, the start
 -- and the end
-unfoldable pub keepsOf : Place → Place → Place → Place → Bool
+unfoldable pub keeps_of : Place → Place → Place → Place → Bool
 unfolding lt
-keepsOf front back start end = lt (distanceOf front start) joinLimit && lt (distanceOf back end) joinLimit
+keeps_of front back start end = lt (distance_of front start) join_limit && lt (distance_of back end) join_limit
 
 unfoldable pub directed : Place → Place → Place → Place → Numbers
-unfolding reversesOf keepsOf
+unfolding reverses_of keeps_of
 directed front back start end =
     valued
-    (yes (reversesOf front back start))
-    (yes (cond (reversesOf front back start) (keepsOf back front start end) (keepsOf front back start end)))
-    plusZero
+    (yes (reverses_of front back start))
+    (yes (cond (reverses_of front back start) (keeps_of back front start end) (keeps_of front back start end)))
+    plus_zero
 
-unfoldable pub directionOf : List Float → Numbers
+unfoldable pub direction_of : List Float → Numbers
 unfolding directed
-directionOf points = settled (first (check 16 (missing 12 greatestFinite points) ∷ [])) (directed (placeAt points 0) (placeAt points 3) (placeAt points 6) (placeAt points 9))
+direction_of points = settled (first (check 16 (missing 12 greatest_finite points) ∷ [])) (directed (place_at points 0) (place_at points 3) (place_at points 6) (place_at points 9))

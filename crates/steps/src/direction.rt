@@ -1,7 +1,7 @@
 // The direction test in `edge_points` of uv.rs.
 ghost use Rattle.std.specs.Prelude.{◌≡◌, eqb};
-ghost use Rattle.answers.specs.Answers.{directionPaper, isDirection};
-ghost use Rattle.steps.specs.Direction.{keepsOf, directed, directionOf};
+ghost use Rattle.answers.specs.Answers.{direction_paper, is_direction};
+ghost use Rattle.steps.specs.Direction.{keeps_of, directed, direction_of};
 
 use answers::{DirectionAnswer, is_missing};
 use leaves::constants::{GREATEST_FINITE, JOIN_LIMIT};
@@ -9,7 +9,7 @@ use space::Place;
 
 // Whether both images lie nearer to the ends than 1e-4.
 fn keeps(front: Place, back: Place, start: Place, end: Place) -> bool
-    ensures { result ≡ keepsOf front back start end }
+    ensures { result ≡ keeps_of front back start end }
 {
     if space::distance(front, start) < JOIN_LIMIT {
         space::distance(back, end) < JOIN_LIMIT
@@ -19,7 +19,7 @@ fn keeps(front: Place, back: Place, start: Place, end: Place) -> bool
 }
 
 fn direct(front: Place, back: Place, start: Place, end: Place) -> DirectionAnswer
-    ensures { (directionPaper result ≡ directed front back start end) × (isDirection result ≡ eqb (directionPaper result).status 0) }
+    ensures { (direction_paper result ≡ directed front back start end) × (is_direction result ≡ eqb (direction_paper result).status 0) }
 {
     if space::distance(back, start) < space::distance(front, start) {
         DirectionAnswer::Direction(true, keeps(back, front, start, end))
@@ -33,7 +33,7 @@ fn direct(front: Place, back: Place, start: Place, end: Place) -> DirectionAnswe
 // Whether to reverse a coedge's points, and whether to keep them. `points` holds twelve numbers: the first
 // image, the last image, the start, the end.
 pub fn edge_direction(points: &[f64]) -> DirectionAnswer
-    ensures { (directionPaper result ≡ directionOf points.now) × (isDirection result ≡ eqb (directionPaper result).status 0) }
+    ensures { (direction_paper result ≡ direction_of points.now) × (is_direction result ≡ eqb (direction_paper result).status 0) }
 {
     if is_missing(12, GREATEST_FINITE, points) {
         return DirectionAnswer::Refused(16);

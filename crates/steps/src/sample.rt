@@ -1,7 +1,7 @@
 // The parameter of a curve's nth sample.
 ghost use Rattle.std.specs.Prelude.{◌≡◌, ◌≤◌, eqb};
-ghost use Rattle.answers.specs.Answers.{parameterPaper, isParameter};
-ghost use Rattle.steps.specs.Sample.{sampleWrong, between as betweenOf, sampled as sampledOf, sampleParameterOf};
+ghost use Rattle.answers.specs.Answers.{parameter_paper, is_parameter};
+ghost use Rattle.steps.specs.Sample.{sample_wrong, between as between_of, sampled as sampled_of, sample_parameter_of};
 
 use answers::{ParameterAnswer, is_beyond};
 use leaves::constants::GREATEST_FINITE;
@@ -11,7 +11,7 @@ const SAMPLES: u32 = 16;
 
 // 16: an end is not finite, or n is above 16.
 fn sample_wrong(a: f64, b: f64, n: u32) -> bool
-    ensures { result ≡ sampleWrong a b n }
+    ensures { result ≡ sample_wrong a b n }
 {
     if is_beyond(GREATEST_FINITE, a) {
         true
@@ -25,7 +25,7 @@ fn sample_wrong(a: f64, b: f64, n: u32) -> bool
 // b - a may overflow; the clamp mends it.
 fn between(a: f64, b: f64, n: u32) -> f64
     requires { n ≤ 16 }
-    ensures { result ≡ betweenOf a b n }
+    ensures { result ≡ between_of a b n }
 {
     leaves::clamp(
         a + (b - a) * (n as f64) / 16.0,
@@ -37,7 +37,7 @@ fn between(a: f64, b: f64, n: u32) -> f64
 // The ends themselves at 0 and 16: the formula would lose a sign there, or give another bit.
 fn sampled(a: f64, b: f64, n: u32) -> f64
     requires { n ≤ 16 }
-    ensures { result ≡ sampledOf a b n }
+    ensures { result ≡ sampled_of a b n }
 {
     if n == 0 {
         a
@@ -50,7 +50,7 @@ fn sampled(a: f64, b: f64, n: u32) -> f64
 
 // a at n = 0, b at n = 16, and the parameter between them for an n between.
 pub fn sample_parameter(a: f64, b: f64, n: u32) -> ParameterAnswer
-    ensures { (parameterPaper result ≡ sampleParameterOf a b n) × (isParameter result ≡ eqb (parameterPaper result).status 0) }
+    ensures { (parameter_paper result ≡ sample_parameter_of a b n) × (is_parameter result ≡ eqb (parameter_paper result).status 0) }
 {
     if sample_wrong(a, b, n) {
         ParameterAnswer::Refused(16)

@@ -9,15 +9,15 @@ use lib.Seq.{drop-cons, get_or-set_same, drop-set-lt}
 use Rattle.text.specs.Digits.{digit, digits}
 
 -- a list from the place on that was set
-pub from-set : (l : List ℕ) (i a : ℕ) → i < length l → drop i (set l i a) ≡ a ∷ drop (suc i) l
-from-set l i a h =
+pub from_set : (l : List ℕ) (i a : ℕ) → i < length l → drop i (set l i a) ≡ a ∷ drop (suc i) l
+from_set l i a h =
     drop-cons (set l i a) i 0 (rw length-set h) ∙ rw (get_or-set_same l i a 0 h, drop-set-lt (suc i) l i a (omega arith))
 
-digit-front : (text : List ℕ) (i rest : ℕ) → i < length text → digits i (rest / 16) ++ drop i (set text i (digit (rest % 16))) ≡ digits (suc i) rest ++ drop (suc i) text
+digit_front : (text : List ℕ) (i rest : ℕ) → i < length text → digits i (rest / 16) ++ drop i (set text i (digit (rest % 16))) ≡ digits (suc i) rest ++ drop (suc i) text
 unfolding digits
-digit-front text i rest h = rw (from-set text i (digit (rest % 16)) h, append_assoc)
+digit_front text i rest h = rw (from_set text i (digit (rest % 16)) h, append_assoc)
 
 -- the digit d in front of those from i on
-pub digit-more : (text whole : List ℕ) (i rest d : ℕ) → 0 < i → i ≤ length text → digits i rest ++ drop i text ≡ whole → d ≡ digit (rest % 16) → digits (i - 1) (rest / 16) ++ drop (i - 1) (set text (i - 1) d) ≡ whole
-digit-more text whole zero rest d h l e f = absurd (not-suc-le-zero h)
-digit-more text whole (suc i) rest d h l e f = let z : suc i - 1 ≡ i = omega arith in rw (z, f) (digit-front text i rest l ∙ e)
+pub digit_more : (text whole : List ℕ) (i rest d : ℕ) → 0 < i → i ≤ length text → digits i rest ++ drop i text ≡ whole → d ≡ digit (rest % 16) → digits (i - 1) (rest / 16) ++ drop (i - 1) (set text (i - 1) d) ≡ whole
+digit_more text whole zero rest d h l e f = absurd (not-suc-le-zero h)
+digit_more text whole (suc i) rest d h l e f = let z : suc i - 1 ≡ i = omega arith in rw (z, f) (digit_front text i rest l ∙ e)

@@ -16,12 +16,12 @@ unfoldable pub number : Float → List ℕ
 number x = space ∷ hexadecimal (to_bits binary64 x)
 
 -- "status, x, y, z, clearance and count": a point's status is 0
-unfoldable pub pointText : Float → Float → Float → Float → ℕ → List ℕ
-pointText x y z clearance count = decimal 0 ++ (number x ++ (number y ++ (number z ++ (number clearance ++ (space ∷ decimal count)))))
+unfoldable pub point_text : Float → Float → Float → Float → ℕ → List ℕ
+point_text x y z clearance count = decimal 0 ++ (number x ++ (number y ++ (number z ++ (number clearance ++ (space ∷ decimal count)))))
 
-unfoldable pub pointLine : Float → Float → Float → Float → ℕ → List ℕ
-pointLine x y z clearance count = pointText x y z clearance count ++ (newline ∷ [])
+unfoldable pub point_line : Float → Float → Float → Float → ℕ → List ℕ
+point_line x y z clearance count = point_text x y z clearance count ++ (newline ∷ [])
 
 -- "a refusal prints its number only"
-unfoldable pub refusalLine : ℕ → List ℕ
-refusalLine n = decimal n ++ (newline ∷ [])
+unfoldable pub refusal_line : ℕ → List ℕ
+refusal_line n = decimal n ++ (newline ∷ [])

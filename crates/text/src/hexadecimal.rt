@@ -4,14 +4,14 @@ ghost use Rattle.std.specs.Float.{binary64};
 ghost use Rattle.std.specs.Float.Ieee.{to_bits};
 ghost use Rattle.text.specs.Page.{laid, behind};
 ghost use Rattle.text.specs.Digits.{hexadecimal, digits};
-ghost use Rattle.text.specs.Digits.{digit as digitOf};
+ghost use Rattle.text.specs.Digits.{digit as digit_of};
 
 use crate::page::put_bytes;
 
 // The ASCII code of a digit.
 pub(crate) fn digit(d: u64) -> u8
     requires { d < 16 }
-    ensures { result ≡ digitOf d }
+    ensures { result ≡ digit_of d }
 {
     if d < 10 { 48 + d as u8 } else { 55 + d as u8 }
 }

@@ -1,7 +1,7 @@
 // The line of an answer: a point's numbers with single spaces between them, or a refusal's number alone.
 ghost use Rattle.std.specs.Prelude.{◌≡◌, ◌++◌, ◌+◌, ◌≤◌, length, take};
 ghost use Rattle.text.specs.Page.{laid, behind};
-ghost use Rattle.text.specs.Line.{number, pointText, pointLine, refusalLine};
+ghost use Rattle.text.specs.Line.{number, point_text, point_line, refusal_line};
 
 use crate::decimal::put_decimal;
 use crate::hexadecimal::{bits_of, put_hex};
@@ -21,7 +21,7 @@ fn put_number(x: f64, at: usize, text: &mut [u8]) -> usize
 fn spell_point(x: f64, y: f64, z: f64, clearance: f64, count: u32, text: &mut [u8]) -> usize
     requires { length text.old ≡ 80 }
     ensures upper_bound { result ≤ 80 }
-    ensures text_after { take result text.new ≡ pointText x y z clearance count }
+    ensures text_after { take result text.new ≡ point_text x y z clearance count }
 {
     let at_x = put_decimal(0, 0, text);
     let at_y = put_number(x, at_x, text);
@@ -42,8 +42,8 @@ pub fn put_point(
     at: usize,
     page: &mut [u8],
 ) -> usize
-    ensures value { result ≡ behind at (pointText x y z clearance count) page.old }
-    ensures page_after { page.new ≡ laid at (pointText x y z clearance count) page.old }
+    ensures value { result ≡ behind at (point_text x y z clearance count) page.old }
+    ensures page_after { page.new ≡ laid at (point_text x y z clearance count) page.old }
 {
     let mut text = [0u8; 80];
     let n = spell_point(x, y, z, clearance, count, &mut text);
@@ -60,8 +60,8 @@ pub fn point_line(
     at: usize,
     page: &mut [u8],
 ) -> usize
-    ensures value { result ≡ behind at (pointLine x y z clearance count) page.old }
-    ensures page_after { page.new ≡ laid at (pointLine x y z clearance count) page.old }
+    ensures value { result ≡ behind at (point_line x y z clearance count) page.old }
+    ensures page_after { page.new ≡ laid at (point_line x y z clearance count) page.old }
 {
     let mut line = [0u8; 81];
     let n = put_point(x, y, z, clearance, count, 0, &mut line);
@@ -71,8 +71,8 @@ pub fn point_line(
 
 // Puts a refusal's number and a newline.
 pub fn refusal_line(number: u32, at: usize, page: &mut [u8]) -> usize
-    ensures value { result ≡ behind at (refusalLine number) page.old }
-    ensures page_after { page.new ≡ laid at (refusalLine number) page.old }
+    ensures value { result ≡ behind at (refusal_line number) page.old }
+    ensures page_after { page.new ≡ laid at (refusal_line number) page.old }
 {
     let mut line = [0u8; 11];
     let n = put_decimal(number, 0, &mut line);

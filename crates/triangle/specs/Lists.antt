@@ -5,57 +5,57 @@
 use Rattle.std.specs.Prelude.{Bool, not, cond, ◌||◌, List, [], ◌∷◌, ℕ, ◌+◌, eqb, Float, length, get_or}
 use Rattle.std.specs.Float.{nan}
 use Rattle.std.specs.Float.Ieee.{eq}
-use Rattle.leaves.specs.Constants.{plusZero, one}
-use Rattle.space.specs.Places.{placeAt}
+use Rattle.leaves.specs.Constants.{plus_zero, one}
+use Rattle.space.specs.Places.{place_at}
 use Rattle.answers.specs.Outcome.{Numbers, refused}
-use Rattle.triangle.specs.Triangle.{triangleOf}
+use Rattle.triangle.specs.Triangle.{triangle_of}
 
 -- ---- 16
 
-unfoldable pub noFlag : Float → Bool
+unfoldable pub no_flag : Float → Bool
 unfolding eq
-noFlag x = not (eq x plusZero || eq x one)
+no_flag x = not (eq x plus_zero || eq x one)
 
-unfoldable pub listsWrong : List Float → List Float → Bool
-unfolding noFlag
-listsWrong centre sides =
+unfoldable pub lists_wrong : List Float → List Float → Bool
+unfolding no_flag
+lists_wrong centre sides =
     not (eqb (length centre) 3)
     || not (eqb (length sides) 57)
-    || noFlag (get_or sides 6 nan)
-    || noFlag (get_or sides 25 nan)
-    || noFlag (get_or sides 44 nan)
+    || no_flag (get_or sides 6 nan)
+    || no_flag (get_or sides 25 nan)
+    || no_flag (get_or sides 44 nan)
 
 -- ---- the side whose nineteen numbers begin at n
 
 abbrev pub coordinates : List Float → ℕ → List Float
 coordinates xs n = get_or xs n nan ∷ get_or xs (n + 1) nan ∷ get_or xs (n + 2) nan ∷ []
 
-unfoldable pub endsFrom : List Float → ℕ → List (List Float)
-endsFrom sides n = coordinates sides n ∷ coordinates sides (n + 3) ∷ []
+unfoldable pub ends_from : List Float → ℕ → List (List Float)
+ends_from sides n = coordinates sides n ∷ coordinates sides (n + 3) ∷ []
 
-unfoldable pub reversedFrom : List Float → ℕ → Bool
+unfoldable pub reversed_from : List Float → ℕ → Bool
 unfolding eq
-reversedFrom sides n = eq (get_or sides (n + 6) nan) one
+reversed_from sides n = eq (get_or sides (n + 6) nan) one
 
-unfoldable pub circleFrom : List Float → ℕ → List Float
-circleFrom sides n = get_or sides (n + 7) nan ∷ get_or sides (n + 8) nan ∷ get_or sides (n + 9) nan ∷ get_or sides (n + 10) nan ∷ []
+unfoldable pub circle_from : List Float → ℕ → List Float
+circle_from sides n = get_or sides (n + 7) nan ∷ get_or sides (n + 8) nan ∷ get_or sides (n + 9) nan ∷ get_or sides (n + 10) nan ∷ []
 
-unfoldable pub rangeFrom : List Float → ℕ → List Float
-rangeFrom sides n = get_or sides (n + 11) nan ∷ get_or sides (n + 12) nan ∷ []
+unfoldable pub range_from : List Float → ℕ → List Float
+range_from sides n = get_or sides (n + 11) nan ∷ get_or sides (n + 12) nan ∷ []
 
-unfoldable pub evaluatedFrom : List Float → ℕ → List (List Float)
-evaluatedFrom sides n = coordinates sides (n + 13) ∷ coordinates sides (n + 16) ∷ []
+unfoldable pub evaluated_from : List Float → ℕ → List (List Float)
+evaluated_from sides n = coordinates sides (n + 13) ∷ coordinates sides (n + 16) ∷ []
 
 -- ---- the call
 
-unfoldable pub triangleListsOf : List Float → Float → ℕ → List Float → Numbers
-unfolding listsWrong triangleOf endsFrom reversedFrom circleFrom rangeFrom evaluatedFrom
-triangleListsOf centre radius sense sides =
-    cond (listsWrong centre sides)
+unfoldable pub triangle_lists_of : List Float → Float → ℕ → List Float → Numbers
+unfolding lists_wrong triangle_of ends_from reversed_from circle_from range_from evaluated_from
+triangle_lists_of centre radius sense sides =
+    cond (lists_wrong centre sides)
     (refused 16)
-    (triangleOf (placeAt centre 0) radius sense
-    (endsFrom sides 0 ∷ endsFrom sides 19 ∷ endsFrom sides 38 ∷ [])
-    (reversedFrom sides 0 ∷ reversedFrom sides 19 ∷ reversedFrom sides 38 ∷ [])
-    (circleFrom sides 0 ∷ circleFrom sides 19 ∷ circleFrom sides 38 ∷ [])
-    (rangeFrom sides 0 ∷ rangeFrom sides 19 ∷ rangeFrom sides 38 ∷ [])
-    (evaluatedFrom sides 0 ∷ evaluatedFrom sides 19 ∷ evaluatedFrom sides 38 ∷ []))
+    (triangle_of (place_at centre 0) radius sense
+    (ends_from sides 0 ∷ ends_from sides 19 ∷ ends_from sides 38 ∷ [])
+    (reversed_from sides 0 ∷ reversed_from sides 19 ∷ reversed_from sides 38 ∷ [])
+    (circle_from sides 0 ∷ circle_from sides 19 ∷ circle_from sides 38 ∷ [])
+    (range_from sides 0 ∷ range_from sides 19 ∷ range_from sides 38 ∷ [])
+    (evaluated_from sides 0 ∷ evaluated_from sides 19 ∷ evaluated_from sides 38 ∷ []))

@@ -1,8 +1,8 @@
 // The triangle of uv.rs: a minor great-circle triangle has one interior on its oriented side.
 ghost use Rattle.std.specs.Prelude.{◌≡◌, eqb};
-ghost use Rattle.space.specs.Places.{placeAt};
-ghost use Rattle.answers.specs.Answers.{positionPaper, isPosition};
-ghost use Rattle.triangle.specs.Triangle.{towards as towardsOf, arcOf, gapAmong, startSum, outside, noInterior, onSphere, triangleAmong, triangleOf};
+ghost use Rattle.space.specs.Places.{place_at};
+ghost use Rattle.answers.specs.Answers.{position_paper, is_position};
+ghost use Rattle.triangle.specs.Triangle.{towards as towards_of, arc_of, gap_among, start_sum, outside, no_interior, on_sphere, triangle_among, triangle_of};
 
 use answers::PositionAnswer;
 use leaves::constants::{END_LIMIT, MICRO};
@@ -18,14 +18,14 @@ pub struct Arc {
 
 // The direction of an end from the centre.
 fn towards(centre: Place, end: [f64; 3]) -> Place
-    ensures { result ≡ towardsOf centre (placeAt end 0) }
+    ensures { result ≡ towards_of centre (place_at end 0) }
 {
     space::along(space::unit(space::minus(place_of(end), centre)))
 }
 
 // The directions of a side's ends, after the reversal.
 fn arc_along(centre: Place, ends: [[f64; 3]; 2], reversed: bool) -> Arc
-    ensures { result ≡ arcOf centre ends reversed }
+    ensures { result ≡ arc_of centre ends reversed }
 {
     let start = towards(centre, ends[0]);
     let end = towards(centre, ends[1]);
@@ -44,7 +44,7 @@ fn arc_along(centre: Place, ends: [[f64; 3]; 2], reversed: bool) -> Arc
 
 // 18: a side's end direction is over 1e-5 from the next side's start.
 fn any_gap(a: Arc, b: Arc, c: Arc) -> bool
-    ensures { result ≡ gapAmong a b c }
+    ensures { result ≡ gap_among a b c }
 {
     if END_LIMIT < space::distance(a.end, b.start) {
         true
@@ -57,7 +57,7 @@ fn any_gap(a: Arc, b: Arc, c: Arc) -> bool
 
 // The sum of the start directions, from +0.
 fn start_sum(a: Place, b: Place, c: Place) -> Place
-    ensures { result ≡ startSum a b c }
+    ensures { result ≡ start_sum a b c }
 {
     Place {
         x: 0.0 + a.x + b.x + c.x,
@@ -75,7 +75,7 @@ fn is_outside(sign: f64, p: Place, a: Arc) -> bool
 
 // 19: sense 0, or p is not clear of a side.
 fn no_interior(sense: u32, p: Place, a: Arc, b: Arc, c: Arc) -> bool
-    ensures { result ≡ noInterior sense p a b c }
+    ensures { result ≡ no_interior sense p a b c }
 {
     if sense == 0 {
         return true;
@@ -92,7 +92,7 @@ fn no_interior(sense: u32, p: Place, a: Arc, b: Arc, c: Arc) -> bool
 
 // The place on the sphere in the direction p.
 fn on_sphere(centre: Place, radius: f64, p: Place) -> PositionAnswer
-    ensures { (positionPaper result ≡ onSphere centre radius p) × (isPosition result ≡ eqb (positionPaper result).status 0) }
+    ensures { (position_paper result ≡ on_sphere centre radius p) × (is_position result ≡ eqb (position_paper result).status 0) }
 {
     PositionAnswer::Position(
         centre.x + radius * p.x,
@@ -103,7 +103,7 @@ fn on_sphere(centre: Place, radius: f64, p: Place) -> PositionAnswer
 
 // 18, 19 and the answer, of the three sides' directions.
 fn among(centre: Place, radius: f64, sense: u32, a: Arc, b: Arc, c: Arc) -> PositionAnswer
-    ensures { (positionPaper result ≡ triangleAmong centre radius sense a b c) × (isPosition result ≡ eqb (positionPaper result).status 0) }
+    ensures { (position_paper result ≡ triangle_among centre radius sense a b c) × (is_position result ≡ eqb (position_paper result).status 0) }
 {
     if any_gap(a, b, c) {
         return PositionAnswer::Refused(18);
@@ -132,7 +132,7 @@ pub fn spherical_triangle(
     ranges: [[f64; 2]; 3],
     evaluated: [[[f64; 3]; 2]; 3],
 ) -> PositionAnswer
-    ensures { (positionPaper result ≡ triangleOf centre radius sense ends reversed circles ranges evaluated) × (isPosition result ≡ eqb (positionPaper result).status 0) }
+    ensures { (position_paper result ≡ triangle_of centre radius sense ends reversed circles ranges evaluated) × (is_position result ≡ eqb (position_paper result).status 0) }
 {
     if sphere_wrong(centre, radius, sense) {
         return PositionAnswer::Refused(16);

@@ -1,7 +1,7 @@
 // The triangle on flat lists, as the host has them.
 ghost use Rattle.std.specs.Prelude.{◌≡◌, ◌+◌, ◌<◌, eqb, length};
-ghost use Rattle.answers.specs.Answers.{positionPaper, isPosition};
-ghost use Rattle.triangle.specs.Lists.{noFlag, listsWrong, coordinates, endsFrom, reversedFrom, circleFrom, rangeFrom, evaluatedFrom, triangleListsOf};
+ghost use Rattle.answers.specs.Answers.{position_paper, is_position};
+ghost use Rattle.triangle.specs.Lists.{no_flag, lists_wrong, coordinates, ends_from, reversed_from, circle_from, range_from, evaluated_from, triangle_lists_of};
 
 use crate::arcs::spherical_triangle;
 use answers::PositionAnswer;
@@ -11,14 +11,14 @@ const SIDES_LENGTH: usize = 57;
 
 // Whether a number is neither 0 nor 1.
 fn is_no_flag(x: f64) -> bool
-    ensures { result ≡ noFlag x }
+    ensures { result ≡ no_flag x }
 {
     if x == 0.0 { false } else { !(x == 1.0) }
 }
 
 // 16: a list of another length, or a flag that is none.
 fn lists_wrong(centre: &[f64], sides: &[f64]) -> bool
-    ensures { result ≡ listsWrong centre.now sides.now }
+    ensures { result ≡ lists_wrong centre.now sides.now }
 {
     if centre.len() != 3 {
         return true;
@@ -45,7 +45,7 @@ fn coordinates_at(list: &[f64], at: usize) -> [f64; 3]
 // The ends of the side whose numbers begin at `at`.
 fn ends_at(sides: &[f64], at: usize) -> [[f64; 3]; 2]
     requires { at + 18 < length sides.now }
-    ensures { result ≡ endsFrom sides.now at }
+    ensures { result ≡ ends_from sides.now at }
 {
     let start = coordinates_at(sides, at);
     let end = coordinates_at(sides, at + 3);
@@ -54,7 +54,7 @@ fn ends_at(sides: &[f64], at: usize) -> [[f64; 3]; 2]
 
 fn reversed_at(sides: &[f64], at: usize) -> bool
     requires { at + 18 < length sides.now }
-    ensures { result ≡ reversedFrom sides.now at }
+    ensures { result ≡ reversed_from sides.now at }
 {
     sides[at + 6] == 1.0
 }
@@ -62,21 +62,21 @@ fn reversed_at(sides: &[f64], at: usize) -> bool
 // Centre and radius.
 fn circle_at(sides: &[f64], at: usize) -> [f64; 4]
     requires { at + 18 < length sides.now }
-    ensures { result ≡ circleFrom sides.now at }
+    ensures { result ≡ circle_from sides.now at }
 {
     [sides[at + 7], sides[at + 8], sides[at + 9], sides[at + 10]]
 }
 
 fn range_at(sides: &[f64], at: usize) -> [f64; 2]
     requires { at + 18 < length sides.now }
-    ensures { result ≡ rangeFrom sides.now at }
+    ensures { result ≡ range_from sides.now at }
 {
     [sides[at + 11], sides[at + 12]]
 }
 
 fn evaluated_at(sides: &[f64], at: usize) -> [[f64; 3]; 2]
     requires { at + 18 < length sides.now }
-    ensures { result ≡ evaluatedFrom sides.now at }
+    ensures { result ≡ evaluated_from sides.now at }
 {
     let start = coordinates_at(sides, at + 13);
     let end = coordinates_at(sides, at + 16);
@@ -91,7 +91,7 @@ pub fn spherical_triangle_of(
     sense: u32,
     sides: &[f64],
 ) -> PositionAnswer
-    ensures { (positionPaper result ≡ triangleListsOf centre.now radius sense sides.now) × (isPosition result ≡ eqb (positionPaper result).status 0) }
+    ensures { (position_paper result ≡ triangle_lists_of centre.now radius sense sides.now) × (is_position result ≡ eqb (position_paper result).status 0) }
 {
     if lists_wrong(centre, sides) {
         return PositionAnswer::Refused(16);

@@ -5,28 +5,28 @@ use mathlib.Core.List.{List, [], ◌∷◌}
 use mathlib.Core.Logic.{inl, inr}
 use Prim.Native.Nat.{ℕ}
 use lib.Ieee.{Float}
-use Rattle.space.specs.Places.{triples, placeAt}
-use Rattle.space.specs.Vectors.{crossOf}
+use Rattle.space.specs.Places.{triples, place_at}
+use Rattle.space.specs.Vectors.{cross_of}
 use Rattle.space.specs.declared.vectors.Place.{Place}
 use Rattle.answers.specs.Outcome.{refused, OneOf}
-use Rattle.answers.proofs.FirstCheck.{first-holds}
-use Rattle.answers.proofs.Settled.{settled-zeros, settled-holds}
-use Rattle.vertex_fallback.specs.Vertices.{pointAmong, pointOnOf}
-use Rattle.vertex_fallback.proofs.Corners.{among-status, among-zeros}
+use Rattle.answers.proofs.FirstCheck.{first_holds}
+use Rattle.answers.proofs.Settled.{settled_zeros, settled_holds}
+use Rattle.vertex_fallback.specs.Vertices.{point_among, point_on_of}
+use Rattle.vertex_fallback.proofs.Corners.{among_status, among_zeros}
 
-module _ (uAxis normal corners : List Float) where
+module _ (u_axis normal corners : List Float) where
   abbrev u : Place
-  u = placeAt uAxis 0
+  u = place_at u_axis 0
 
   abbrev v : Place
-  v = crossOf (placeAt normal 0) u
+  v = cross_of (place_at normal 0) u
 
-  pub point-on-refused : ((pointOnOf uAxis normal corners).status ≡ 0 → ⊥) → pointOnOf uAxis normal corners ≡ refused (pointOnOf uAxis normal corners).status
-  unfolding pointOnOf
-  point-on-refused = settled-zeros _ (pointAmong u v (triples corners)) (among-zeros u v (triples corners))
+  pub point_on_refused : ((point_on_of u_axis normal corners).status ≡ 0 → ⊥) → point_on_of u_axis normal corners ≡ refused (point_on_of u_axis normal corners).status
+  unfolding point_on_of
+  point_on_refused = settled_zeros _ (point_among u v (triples corners)) (among_zeros u v (triples corners))
 
-  pub point-on-status : OneOf (0 ∷ 16 ∷ 20 ∷ 21 ∷ []) (pointOnOf uAxis normal corners).status
-  unfolding pointOnOf
-  point-on-status =
+  pub point_on_status : OneOf (0 ∷ 16 ∷ 20 ∷ 21 ∷ []) (point_on_of u_axis normal corners).status
+  unfolding point_on_of
+  point_on_status =
       let P : ℕ → Type 0 = OneOf (0 ∷ 16 ∷ 20 ∷ 21 ∷ []) in
-      settled-holds P _ (pointAmong u v (triples corners)) (first-holds P (inl refl) _ (inr (inl refl), (inr (inr (inl refl)), tt))) (among-status u v (triples corners) P (inl refl) (inr (inr (inr (inl refl)))))
+      settled_holds P _ (point_among u v (triples corners)) (first_holds P (inl refl) _ (inr (inl refl), (inr (inr (inl refl)), tt))) (among_status u v (triples corners) P (inl refl) (inr (inr (inr (inl refl)))))

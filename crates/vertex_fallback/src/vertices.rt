@@ -2,10 +2,10 @@
 // lies inside the ring of all corners.
 ghost use Rattle.std.specs.Prelude.{map, ◌≡◌, ◌*◌, ◌/◌, ◌<◌, eqb, length};
 ghost use Rattle.space.specs.Places.{triples};
-ghost use Rattle.sheet.specs.Content.{pairs, flat as flatOf};
-ghost use Rattle.answers.specs.Answers.{positionPaper, isPosition};
+ghost use Rattle.sheet.specs.Content.{pairs, flat as flat_of};
+ghost use Rattle.answers.specs.Answers.{position_paper, is_position};
 ghost use Rattle.answers.specs.declared.outcomes.PositionAnswer.TheVariants.{Position};
-ghost use Rattle.vertex_fallback.specs.Vertices.{verticesWrong, cornersWrong, corner, third as thirdOf, centreOf, degenerate, flattened, servesOf, firstServing, cornersOf, pointAmong, pointOnOf};
+ghost use Rattle.vertex_fallback.specs.Vertices.{vertices_wrong, corners_wrong, corner, third as third_of, centre_of, degenerate, flattened, serves_of, first_serving, corners_of, point_among, point_on_of};
 
 use answers::{ARGUMENT_LIMIT, PositionAnswer, any_number_beyond, is_missing};
 use leaves::constants::DEGENERATE_LIMIT;
@@ -19,7 +19,7 @@ const MOST_FLAT: usize = 256;
 
 // 16: a number of the three lists is missing or beyond 2^20.
 fn vertices_wrong(u_axis: &[f64], normal: &[f64], corners: &[f64]) -> bool
-    ensures { result ≡ verticesWrong u_axis.now normal.now corners.now }
+    ensures { result ≡ vertices_wrong u_axis.now normal.now corners.now }
 {
     if is_missing(3, ARGUMENT_LIMIT, u_axis) {
         true
@@ -32,7 +32,7 @@ fn vertices_wrong(u_axis: &[f64], normal: &[f64], corners: &[f64]) -> bool
 
 // 20: not in threes, fewer than 3 corners, or over 128.
 fn corners_wrong(corners: &[f64]) -> bool
-    ensures { result ≡ cornersWrong corners.now }
+    ensures { result ≡ corners_wrong corners.now }
 {
     if corners.len() % 3 != 0 {
         true
@@ -45,13 +45,13 @@ fn corners_wrong(corners: &[f64]) -> bool
 
 // One coordinate of the centre.
 fn third(a: f64, b: f64, c: f64) -> f64
-    ensures { result ≡ thirdOf a b c }
+    ensures { result ≡ third_of a b c }
 {
     (a + b + c) / 3.0
 }
 
 fn centre(before: Place, here: Place, after: Place) -> Place
-    ensures { result ≡ centreOf (corner before here after) }
+    ensures { result ≡ centre_of (corner before here after) }
 {
     Place {
         x: third(before.x, here.x, after.x),
@@ -70,7 +70,7 @@ fn is_degenerate(before: Place, here: Place, after: Place) -> bool
 
 // Whether the centre of the three serves: they are not degenerate, and it lies inside the ring.
 fn serves(u: Place, v: Place, ring: &[f64], before: Place, here: Place, after: Place) -> bool
-    ensures { result ≡ servesOf u v (pairs ring.now) (corner before here after) }
+    ensures { result ≡ serves_of u v (pairs ring.now) (corner before here after) }
 {
     if is_degenerate(before, here, after) {
         return false;
@@ -82,7 +82,7 @@ fn serves(u: Place, v: Place, ring: &[f64], before: Place, here: Place, after: P
 // The corners on the axes u and v, over a list that has room for just them.
 fn flatten(u: Place, v: Place, corners: &[f64], ring: &mut [f64])
     requires { length ring.old ≡ 2 * (length corners.now / 3) }
-    ensures { ring.new ≡ flatOf (map (flattened u v) (triples corners.now)) }
+    ensures { ring.new ≡ flat_of (map (flattened u v) (triples corners.now)) }
 {
     let count = corners.len() / 3;
     let mut k = 0;
@@ -104,7 +104,7 @@ fn position(p: Place) -> PositionAnswer
 // The first corner that serves, where there are corners; 21: none does.
 fn first_serving(u: Place, v: Place, corners: &[f64], ring: &[f64]) -> PositionAnswer
     requires { 0 < length corners.now / 3 }
-    ensures { (positionPaper result ≡ firstServing (servesOf u v (pairs ring.now)) (cornersOf (triples corners.now))) × (isPosition result ≡ eqb (positionPaper result).status 0) }
+    ensures { (position_paper result ≡ first_serving (serves_of u v (pairs ring.now)) (corners_of (triples corners.now))) × (is_position result ≡ eqb (position_paper result).status 0) }
 {
     let count = corners.len() / 3;
     let start = space::place_at(corners, 0);
@@ -129,7 +129,7 @@ fn first_serving(u: Place, v: Place, corners: &[f64], ring: &[f64]) -> PositionA
 // The answer, over a list that has room for just the corners on the axes.
 fn point_over(u: Place, v: Place, corners: &[f64], ring: &mut [f64]) -> PositionAnswer
     requires { (0 < length corners.now / 3) × (length ring.old ≡ 2 * (length corners.now / 3)) }
-    ensures { (positionPaper result ≡ pointAmong u v (triples corners.now)) × (isPosition result ≡ eqb (positionPaper result).status 0) }
+    ensures { (position_paper result ≡ point_among u v (triples corners.now)) × (is_position result ≡ eqb (position_paper result).status 0) }
 {
     flatten(u, v, corners, ring);
     first_serving(u, v, corners, ring)
@@ -137,7 +137,7 @@ fn point_over(u: Place, v: Place, corners: &[f64], ring: &mut [f64]) -> Position
 
 // A point inside a planar face, from its corners.
 pub fn point_on(u_axis: &[f64], normal: &[f64], corners: &[f64]) -> PositionAnswer
-    ensures { (positionPaper result ≡ pointOnOf u_axis.now normal.now corners.now) × (isPosition result ≡ eqb (positionPaper result).status 0) }
+    ensures { (position_paper result ≡ point_on_of u_axis.now normal.now corners.now) × (is_position result ≡ eqb (position_paper result).status 0) }
 {
     if vertices_wrong(u_axis, normal, corners) {
         return PositionAnswer::Refused(16);

@@ -2,7 +2,7 @@
 use Rattle.std.proofs.Common.{◌≤◌, length, sym, arith}
 use lib.Seq.{length-take-le}
 use Rattle.cases.specs.Record.{Within}
-use Rattle.cases.proofs.Heads.{head-within}
+use Rattle.cases.proofs.Heads.{head_within}
 use Rattle.plates.proofs.run_plate.Goals as goal
 
 pub slice_bounds-lend-end : goal.slice_bounds-lend-end
@@ -12,11 +12,11 @@ slice_bounds-lend-end g c =
 pub lend-requires-clause-bytes_bound : goal.lend-requires-clause-bytes_bound
 unfolding Within
 lend-requires-clause-bytes_bound g c =
-    let w : Within c.head_of-head.result = rw c.head_of-head.ensures (head-within _) in
+    let w : Within c.head_of-head.result = rw c.head_of-head.ensures (head_within _) in
     (rw c.in-Call.is at w).0
 
 pub lend-requires-clause-places_bound : goal.lend-requires-clause-places_bound
 unfolding Within
 lend-requires-clause-places_bound g c =
-    let w : Within c.head_of-head.result = rw c.head_of-head.ensures (head-within _) in
+    let w : Within c.head_of-head.result = rw c.head_of-head.ensures (head_within _) in
     (rw c.in-Call.is at w).1

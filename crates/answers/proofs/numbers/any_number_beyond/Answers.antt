@@ -9,7 +9,7 @@ use lib.Ieee.{nan}
 use lib.ListN.{drop_of_length-le}
 use lib.Seq.{drop-cons}
 use Rattle.answers.specs.Limits.{beyond}
-use Rattle.answers.proofs.AnyOf.{any-found, any-passed, any-none}
+use Rattle.answers.proofs.AnyOf.{any_found, any_passed, any_none}
 use Rattle.answers.proofs.numbers.any_number_beyond.Goals as goal
 
 pub loop-k-init : goal.loop-k-init
@@ -18,14 +18,14 @@ loop-k-init c = refl
 pub returns-then-is_beyond : goal.returns-then-is_beyond
 returns-then-is_beyond c =
     let a = c.args in
-    sym (any-found (beyond a.limit) (drop-cons a.list.now c.loop-k.k nan (omega arith)) (sym c.is_beyond.ensures ∙ c.if-is_beyond.true)) ∙ c.loop-k.invariant
+    sym (any_found (beyond a.limit) (drop-cons a.list.now c.loop-k.k nan (omega arith)) (sym c.is_beyond.ensures ∙ c.if-is_beyond.true)) ∙ c.loop-k.invariant
 
 pub loop-k-preserved : goal.loop-k-preserved
 loop-k-preserved c =
     let a = c.args in
-    rw add-one (sym (any-passed (beyond a.limit) (drop-cons a.list.now c.loop-k.k nan (omega arith)) (sym c.is_beyond.ensures ∙ c.if-is_beyond.false)) ∙ c.loop-k.invariant)
+    rw add-one (sym (any_passed (beyond a.limit) (drop-cons a.list.now c.loop-k.k nan (omega arith)) (sym c.is_beyond.ensures ∙ c.if-is_beyond.false)) ∙ c.loop-k.invariant)
 
 pub returns : goal.returns
 returns c =
     let a = c.args in
-    sym (any-none (beyond a.limit) (drop_of_length-le a.list.now c.loop-k-test.false)) ∙ c.loop-k.invariant
+    sym (any_none (beyond a.limit) (drop_of_length-le a.list.now c.loop-k-test.false)) ∙ c.loop-k.invariant

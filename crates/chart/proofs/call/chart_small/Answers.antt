@@ -4,16 +4,16 @@ use Prim.Native.Nat.{◌≤◌}
 use native.Mathlib.Omega.{arith}
 use lib.Seq.{length-take-le}
 use Rattle.sheet.proofs.Checked.{checked}
-use Rattle.chart.proofs.Calling.{reads-of}
+use Rattle.chart.proofs.Calling.{reads_of}
 use Rattle.chart.proofs.call.chart_small.Goals as goal
 
 pub slice_bounds-ends-end : goal.slice_bounds-ends-end
-slice_bounds-ends-end c = omega (arith, c.requires.2, (checked c.args.s.now (reads-of c.args.s.now c.args.phase c.requires.0.passes)).layout.ringsMost)
+slice_bounds-ends-end c = omega (arith, c.requires.2, (checked c.args.s.now (reads_of c.args.s.now c.args.phase c.requires.0.passes)).layout.rings_most)
 
 pub slice_bounds-chart_over-end-2 : goal.slice_bounds-chart_over-end-2
-slice_bounds-chart_over-end-2 c = sym (length-take-le _ _ (omega (arith, c.requires.2, (checked c.args.s.now (reads-of c.args.s.now c.args.phase c.requires.0.passes)).layout.ringsMost)))
+slice_bounds-chart_over-end-2 c = sym (length-take-le _ _ (omega (arith, c.requires.2, (checked c.args.s.now (reads_of c.args.s.now c.args.phase c.requires.0.passes)).layout.rings_most)))
 
 pub chart_over-requires : goal.chart_over-requires
 chart_over-requires c =
-    let rings-of : c.args.count ≤ 16 = omega (arith, c.requires.2, (checked c.args.s.now (reads-of c.args.s.now c.args.phase c.requires.0.passes)).layout.ringsMost) in
-    (c.requires.0, length-take-le _ _ c.requires.3 ∙ c.requires.1, length-take-le _ _ rings-of ∙ c.requires.2)
+    let rings_of_lem : c.args.count ≤ 16 = omega (arith, c.requires.2, (checked c.args.s.now (reads_of c.args.s.now c.args.phase c.requires.0.passes)).layout.rings_most) in
+    (c.requires.0, length-take-le _ _ c.requires.3 ∙ c.requires.1, length-take-le _ _ rings_of_lem ∙ c.requires.2)

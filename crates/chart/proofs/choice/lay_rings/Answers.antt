@@ -6,9 +6,9 @@ use Prim.Native.Nat.{◌+◌, ◌-◌, ◌*◌, ◌/◌, ◌≤◌}
 use native.Mathlib.Omega.{arith}
 use lib.Ieee.{nan}
 use lib.ListN.{length, get_or, drop, length-take, length-drop}
-use Rattle.points.proofs.Anew.{anew-length}
-use Rattle.chart.proofs.Choosing.{ring-laid, all-laid}
-use Rattle.frame.proofs.Rings.{ascends-bound, within}
+use Rattle.points.proofs.Anew.{anew_length}
+use Rattle.chart.proofs.Choosing.{ring_laid, all_laid}
+use Rattle.frame.proofs.Rings.{ascends_bound, within}
 use Rattle.chart.proofs.choice.lay_rings.Goals as goal
 
 pub loop-k-init : goal.loop-k-init
@@ -47,12 +47,12 @@ loop-k-preserved c =
     let room : l.at + 4 * ((to - l.from) / 2) ≤ length l.list = omega (arith, w.bound, w.up, c.loop-k.invariant.0, c.loop-k.invariant.2, c.requires.1, c.requires.2) in (
       omega (arith, w.up, l.invariant.0),
       w.rest,
-      anew-length nan l.list c.lay.new.list l.at (l.at + 4 * ((to - l.from) / 2) - l.at) (c.lay.auto.list ∙ simp (length-take, length-drop) (omega (arith, room))) (omega (arith, room)) ∙ l.invariant.2,
-      ring-laid x.periodic x.period x.points.now x.ends.now _ l.list _ l.at l.from l.k to c.loop-k-test.true refl w.up w.bound room c.lay.ensures l.invariant.3,
+      anew_length nan l.list c.lay.new.list l.at (l.at + 4 * ((to - l.from) / 2) - l.at) (c.lay.auto.list ∙ simp (length-take, length-drop) (omega (arith, room))) (omega (arith, room)) ∙ l.invariant.2,
+      ring_laid x.periodic x.period x.points.now x.ends.now _ l.list _ l.at l.from l.k to c.loop-k-test.true refl w.up w.bound room c.lay.ensures l.invariant.3,
     )
 
 pub returns : goal.returns
 returns c =
     let l = c.loop-k in
     let x = c.args in
-    (omega (arith, ascends-bound l.from (drop l.k x.ends.now) (length x.points.now) l.invariant.1, l.invariant.0), all-laid x.periodic x.period x.points.now x.ends.now _ l.list l.list l.at l.from l.k c.loop-k-test.false l.invariant.3)
+    (omega (arith, ascends_bound l.from (drop l.k x.ends.now) (length x.points.now) l.invariant.1, l.invariant.0), all_laid x.periodic x.period x.points.now x.ends.now _ l.list l.list l.at l.from l.k c.loop-k-test.false l.invariant.3)

@@ -5,9 +5,9 @@ use Prim.Native.Nat.{◌≤◌}
 use native.Mathlib.Omega.{arith}
 use lib.Ieee.{Float}
 use lib.ListN.{length, drop, set}
-use Rattle.answers.proofs.Over.{over-short, over-room}
+use Rattle.answers.proofs.Over.{over_short, over_room}
 use Rattle.sheet.specs.Content.{flat}
-use Rattle.clearance.specs.SegmentLists.{endsOf}
+use Rattle.clearance.specs.SegmentLists.{ends_of}
 use Rattle.clearance.proofs.segment_list.put.Goals as goal
 
 -- four stores in a list that has room for them
@@ -19,9 +19,9 @@ four (w ∷ x ∷ y ∷ []) h a b c d = absurd (omega arith)
 four (w ∷ x ∷ y ∷ z ∷ xs) h a b c d = refl
 
 pub returns-then-places-lt-NUMBERS : goal.returns-then-places-lt-NUMBERS
-unfolding flat endsOf
-returns-then-places-lt-NUMBERS c = sym (over-short _ _ (omega arith))
+unfolding flat ends_of
+returns-then-places-lt-NUMBERS c = sym (over_short _ _ (omega arith))
 
 pub returns : goal.returns
-unfolding flat endsOf
-returns c = four c.args.places.now (omega arith) _ _ _ _ ∙ sym (over-room _ c.args.places.now (omega arith))
+unfolding flat ends_of
+returns c = four c.args.places.now (omega arith) _ _ _ _ ∙ sym (over_room _ c.args.places.now (omega arith))

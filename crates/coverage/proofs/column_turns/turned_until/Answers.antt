@@ -5,16 +5,16 @@ use mathlib.Core.Bool.{Bool, true}
 use Prim.Native.Nat.{ℕ, ◌+◌}
 use native.Mathlib.Omega.{arith}
 use lib.Ieee.{Float, eq}
-use Rattle.points.specs.Turns.{keepsOrder}
-use Rattle.coverage.specs.Lines.{turnAt, Turning}
+use Rattle.points.specs.Turns.{keeps_order}
+use Rattle.coverage.specs.Lines.{turn_at, Turning}
 use Rattle.points.proofs.ColumnOrder.{holds}
-use Rattle.coverage.proofs.ServingTurns.{turning-between}
+use Rattle.coverage.proofs.ServingTurns.{turning_between}
 use Rattle.coverage.proofs.column_turns.turned_until.Goals as goal
 
 -- equal turns at two columns serve between them where they go with the order
-found : (period mid : Float) (i : ℕ) (by : Float) → by ≡ turnAt period mid i → (kept : Bool) → kept ≡ keepsOrder period mid → kept ≡ true → (t : ℕ) (there : Float) → there ≡ turnAt period mid t → eq by there ≡ true → Turning period mid i t by
+found : (period mid : Float) (i : ℕ) (by : Float) → by ≡ turn_at period mid i → (kept : Bool) → kept ≡ keeps_order period mid → kept ≡ true → (t : ℕ) (there : Float) → there ≡ turn_at period mid t → eq by there ≡ true → Turning period mid i t by
 found period mid i by is kept e h t there at q =
-    subst (Turning period mid i t) (sym is) (turning-between period mid (holds (keepsOrder period mid) (sym e ∙ h)) i t (rw (← is, ← at) q))
+    subst (Turning period mid i t) (sym is) (turning_between period mid (holds (keeps_order period mid) (sym e ∙ h)) i t (rw (← is, ← at) q))
 
 pub returns-then-by-turn_at : goal.returns-then-by-turn_at
 returns-then-by-turn_at c =

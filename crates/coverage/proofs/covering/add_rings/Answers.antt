@@ -10,12 +10,12 @@ use lib.IntN.{pos, nat_abs}
 use lib.Ieee.{Float}
 use lib.ListN.{length, get_or, drop, length-take, length-drop, length-replicate, get_or-replicate}
 use Rattle.sheet.specs.Content.{pairs}
-use Rattle.points.proofs.Flat.{length-pairs}
-use Rattle.inside.specs.Lines.{byColumns}
-use Rattle.frame.proofs.Rings.{between, fold-rings-end}
-use Rattle.coverage.specs.Coverage.{windingOf}
-use Rattle.coverage.proofs.Cutting.{fold-cut}
-use Rattle.coverage.proofs.Windings.{sum-small, winding-small}
+use Rattle.points.proofs.Flat.{length_pairs}
+use Rattle.inside.specs.Lines.{by_columns}
+use Rattle.frame.proofs.Rings.{between, fold_rings_end}
+use Rattle.coverage.specs.Coverage.{winding_of}
+use Rattle.coverage.proofs.Cutting.{fold_cut}
+use Rattle.coverage.proofs.Windings.{sum_small, winding_small}
 use Rattle.coverage.proofs.covering.add_rings.Invariants.{wind}
 use Rattle.coverage.proofs.covering.add_rings.Goals as goal
 
@@ -34,9 +34,9 @@ add_ring-requires c =
     (c.loop-k.invariant.1, λ n h. omega (arith, c.loop-k.invariant.0, c.loop-k.invariant.2 n h, few))
 
 -- a ring has at most half as many points as the list has numbers
-few-points : (period : Float) (n from end : ℕ) (xs : List Float) → length xs ≤ 4352 → nat_abs (windingOf period (byColumns n) (pairs (between from end xs))) ≤ 2176
-few-points period n from end xs h =
-    omega (arith, winding-small period (byColumns n) (pairs (between from end xs)), length-pairs (between from end xs), length-take (end - from) (drop from xs), length-drop from xs)
+few_points : (period : Float) (n from end : ℕ) (xs : List Float) → length xs ≤ 4352 → nat_abs (winding_of period (by_columns n) (pairs (between from end xs))) ≤ 2176
+few_points period n from end xs h =
+    omega (arith, winding_small period (by_columns n) (pairs (between from end xs)), length_pairs (between from end xs), length-take (end - from) (drop from xs), length-drop from xs)
 
 pub loop-k-preserved : goal.loop-k-preserved
 loop-k-preserved c =
@@ -47,8 +47,8 @@ loop-k-preserved c =
     let sums = c.add_ring.ensures in (
       omega arith,
       sums.count,
-      λ n h. rw (sums.is n h) (omega (arith, c.loop-k.invariant.2 n h, sum-small (get_or c.loop-k.cells n (pos 0)) (windingOf a.period (byColumns n) (pairs (between start.result end.result a.points.now))), few-points a.period n start.result end.result a.points.now c.requires.0)),
-      λ n h. rw (sums.is n h) (sym (fold-cut (wind a.period n) a.ends.now a.points.now (get_or c.loop-k.cells n (pos 0)) c.loop-k.from c.loop-k.k start.result end.result more start.ensures end.ensures) ∙ c.loop-k.invariant.3 n h),
+      λ n h. rw (sums.is n h) (omega (arith, c.loop-k.invariant.2 n h, sum_small (get_or c.loop-k.cells n (pos 0)) (winding_of a.period (by_columns n) (pairs (between start.result end.result a.points.now))), few_points a.period n start.result end.result a.points.now c.requires.0)),
+      λ n h. rw (sums.is n h) (sym (fold_cut (wind a.period n) a.ends.now a.points.now (get_or c.loop-k.cells n (pos 0)) c.loop-k.from c.loop-k.k start.result end.result more start.ensures end.ensures) ∙ c.loop-k.invariant.3 n h),
     )
 
 pub returns : goal.returns
@@ -56,5 +56,5 @@ returns c =
     let x = c.args in
     record {
       count = c.loop-k.invariant.1;
-      is = λ n h. sym (fold-rings-end (wind x.period n) x.ends.now x.points.now (get_or c.loop-k.cells n (pos 0)) c.loop-k.from c.loop-k.k c.loop-k-test.false) ∙ c.loop-k.invariant.3 n h;
+      is = λ n h. sym (fold_rings_end (wind x.period n) x.ends.now x.points.now (get_or c.loop-k.cells n (pos 0)) c.loop-k.from c.loop-k.k c.loop-k-test.false) ∙ c.loop-k.invariant.3 n h;
     }

@@ -1,21 +1,21 @@
 -- `coverage::covering::cover_by_winding` marks what the sums of the windings cover, in the grid's order.
 use mathlib.Core.Path.{◌∙◌}
 use mathlib.Core.Bool.{false}
-use Rattle.points.specs.Grid.{gridPoint}
-use Rattle.inside.specs.Lines.{byColumns}
-use Rattle.inside.proofs.Cells.{all-grid}
-use Rattle.frame.specs.Parts.{ringsFrom}
+use Rattle.points.specs.Grid.{grid_point}
+use Rattle.inside.specs.Lines.{by_columns}
+use Rattle.inside.proofs.Cells.{all_grid}
+use Rattle.frame.specs.Parts.{rings_from}
 use Rattle.coverage.specs.Coverage.{covered}
-use Rattle.coverage.proofs.Parity.{covered-winding}
+use Rattle.coverage.proofs.Parity.{covered_winding}
 use Rattle.coverage.proofs.covering.cover_by_winding.Goals as goal
 
 pub returns : goal.returns
-unfolding byColumns
+unfolding by_columns
 returns c =
     let f = c.args.f in
-    let rings = ringsFrom 0 c.args.ends.now c.args.points.now in
+    let rings = rings_from 0 c.args.ends.now c.args.points.now in
     let marks = c.mark_windings.ensures in
-    all-grid false _ (λ i j. covered f c.args.sense rings (gridPoint i j)) (record {
+    all_grid false _ (λ i j. covered f c.args.sense rings (grid_point i j)) (record {
       count = marks.count;
-      is = λ k h. marks.is k h ∙ rw (c.add_rings.ensures.is k h) (covered-winding f c.args.sense rings (byColumns k) c.requires.0);
+      is = λ k h. marks.is k h ∙ rw (c.add_rings.ensures.is k h) (covered_winding f c.args.sense rings (by_columns k) c.requires.0);
     })

@@ -13,20 +13,20 @@ use mir.ValLaws.{to_z-of_z}
 use Rattle.coverage.specs.Coverage.{oddℤ}
 use Rattle.coverage.proofs.marks.is_odd.Goals as goal
 
-odd-positive : (r : ℕ) → r < 2 → not (eqb r 0) ≡ eqb r 1
-odd-positive zero h = refl
-odd-positive (suc zero) h = refl
-odd-positive (suc (suc r)) h = absurd (omega arith)
+odd_positive : (r : ℕ) → r < 2 → not (eqb r 0) ≡ eqb r 1
+odd_positive zero h = refl
+odd_positive (suc zero) h = refl
+odd_positive (suc (suc r)) h = absurd (omega arith)
 
-odd-negative : (r : ℕ) → r < 2 → not (eqb (of_z w64 (neg_ℤ (pos r))) 0) ≡ eqb r 1
-odd-negative zero h = refl
-odd-negative (suc zero) h = refl
-odd-negative (suc (suc r)) h = absurd (omega arith)
+odd_negative : (r : ℕ) → r < 2 → not (eqb (of_z w64 (neg_ℤ (pos r))) 0) ≡ eqb r 1
+odd_negative zero h = refl
+odd_negative (suc zero) h = refl
+odd_negative (suc (suc r)) h = absurd (omega arith)
 
 odd : (n : ℤ) → not (eqb (of_z w64 (rem_z n (pos 2))) 0) ≡ oddℤ n
 unfolding oddℤ
-odd (pos n) = odd-positive (n % 2) (omega arith)
-odd (negsuc n) = odd-negative (suc n % 2) (omega arith)
+odd (pos n) = odd_positive (n % 2) (omega arith)
+odd (negsuc n) = odd_negative (suc n % 2) (omega arith)
 
 pub returns : goal.returns
 returns c = rw (to_z-of_z w64 c.args.n c.ranges.n) (odd c.args.n)

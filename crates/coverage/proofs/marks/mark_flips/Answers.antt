@@ -7,9 +7,9 @@ use lib.IntN.{pos}
 use lib.ListN.{get_or}
 use mir.Syntax.{w64}
 use mir.Val.{to_z}
-use Rattle.inside.specs.Lines.{inRows}
-use Rattle.inside.proofs.Cells.{none-changed, cell-changed, all-changed}
-use Rattle.coverage.specs.Coverage.{coveredBy}
+use Rattle.inside.specs.Lines.{in_rows}
+use Rattle.inside.proofs.Cells.{none_changed, cell_changed, all_changed}
+use Rattle.coverage.specs.Coverage.{covered_by}
 use Rattle.coverage.proofs.marks.mark_flips.Invariants.{marked}
 use Rattle.coverage.proofs.marks.mark_flips.Goals as goal
 use Rattle.coverage.proofs.marks.mark_flips.Goals.{then-cells-at, else-cells-at}
@@ -17,7 +17,7 @@ use Rattle.coverage.proofs.marks.mark_flips.Goals.{then-cells-at, else-cells-at}
 pub loop-k-init : goal.loop-k-init
 loop-k-init c =
     let x = c.args in
-    (omega arith, none-changed false 961 (marked x.band x.sense x.cells.now) x.covered.now c.requires.1)
+    (omega arith, none_changed false 961 (marked x.band x.sense x.cells.now) x.covered.now c.requires.1)
 
 pub bounds-cells-at : goal.bounds-cells-at
 bounds-cells-at c = omega arith
@@ -28,16 +28,16 @@ next_row-at-requires c = omega arith
 pub loop-k-preserved : goal.loop-k-preserved
 loop-k-preserved c =
     let x = c.args in
-    let at : c.loop-k.at ≡ inRows c.loop-k.k = c.loop-k.invariant.0 in
-    let is : to_z w64 c.if-cells-at.crossings-bits ≡ cond (get_or x.cells.now (inRows c.loop-k.k) false) (pos 1) (pos 0) = elim c.if-cells-at.branch [
+    let at : c.loop-k.at ≡ in_rows c.loop-k.k = c.loop-k.invariant.0 in
+    let is : to_z w64 c.if-cells-at.crossings-bits ≡ cond (get_or x.cells.now (in_rows c.loop-k.k) false) (pos 1) (pos 0) = elim c.if-cells-at.branch [
       | then-cells-at w ↦ rw (w.crossings-is, ← at, w.if-cells-at.true)
       | else-cells-at w ↦ rw (w.crossings-is, ← at, w.if-cells-at.false)
     ] in (
       c.next_row-at.ensures c.loop-k.k (omega arith) at,
-      cell-changed false 961 (marked x.band x.sense x.cells.now) x.covered.now c.loop-k.k c.loop-k.covered c.loop-k.invariant.1 (omega arith) _ (c.is_covered.ensures ∙ ap (coveredBy x.band x.sense) is),
+      cell_changed false 961 (marked x.band x.sense x.cells.now) x.covered.now c.loop-k.k c.loop-k.covered c.loop-k.invariant.1 (omega arith) _ (c.is_covered.ensures ∙ ap (covered_by x.band x.sense) is),
     )
 
 pub returns : goal.returns
 returns c =
     let x = c.args in
-    all-changed false 961 (marked x.band x.sense x.cells.now) x.covered.now c.loop-k.k c.loop-k.covered c.loop-k.invariant.1 (omega arith)
+    all_changed false 961 (marked x.band x.sense x.cells.now) x.covered.now c.loop-k.k c.loop-k.covered c.loop-k.invariant.1 (omega arith)

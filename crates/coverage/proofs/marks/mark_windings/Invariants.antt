@@ -4,12 +4,12 @@ use Prim.Native.Nat.{ℕ, ◌-◌}
 use lib.IntN.{ℤ, pos}
 use lib.ListN.{get_or}
 use Rattle.inside.proofs.Cells.{Changed}
-use Rattle.coverage.specs.Coverage.{coveredBy}
+use Rattle.coverage.specs.Coverage.{covered_by}
 use Rattle.coverage.proofs.marks.mark_windings.Given as goal
 
 -- the mark in place k
 abbrev pub marked : Bool → ℕ → List ℤ → ℕ → Bool → Bool
-marked band sense sums k t = coveredBy band sense (get_or sums k (pos 0))
+marked band sense sums k t = covered_by band sense (get_or sums k (pos 0))
 
 abbrev pub invariant-loop-k : goal.invariant-loop-k
 invariant-loop-k l = Changed false 961 (marked l.band l.sense l.sums) l.initial.covered l.k l.covered

@@ -7,7 +7,7 @@ use mir.Syntax.{w64}
 use mir.Val.{to_z, of_z}
 use mir.ValLaws.{to_z-of_z}
 use Rattle.coverage.specs.Coverage.{step}
-use Rattle.coverage.proofs.Windings.{add-none}
+use Rattle.coverage.proofs.Windings.{add_none}
 use Rattle.coverage.proofs.winding.add_column.Goals as goal
 
 pub returns-then-just_one_above : goal.returns-then-just_one_above
@@ -26,5 +26,5 @@ unfolding step
 returns-else-just_one_above c =
     record {
       count = c.requires.0;
-      is = λ m h. rw (← c.just_one_above.ensures, c.if-just_one_above.false) (sym (add-none (get_or c.args.column.now m (pos 0))));
+      is = λ m h. rw (← c.just_one_above.ensures, c.if-just_one_above.false) (sym (add_none (get_or c.args.column.now m (pos 0))));
     }

@@ -9,15 +9,15 @@ use lib.IntN.{pos}
 use lib.ListN.{get_or}
 use Rattle.sheet.specs.Content.{point}
 use Rattle.points.specs.Segments.{segment}
-use Rattle.points.proofs.Walk.{pointAt, walk-step, left-end}
-use Rattle.inside.specs.Lines.{byColumns}
-use Rattle.coverage.specs.Coverage.{stepOf}
-use Rattle.coverage.proofs.Windings.{windStep, winding-none, winding-start, step-small, sum-small}
+use Rattle.points.proofs.Walk.{point_at, walk_step, left_end}
+use Rattle.inside.specs.Lines.{by_columns}
+use Rattle.coverage.specs.Coverage.{step_of}
+use Rattle.coverage.proofs.Windings.{wind_step, winding_none, winding_start, step_small, sum_small}
 use Rattle.coverage.proofs.winding.add_ring.Goals as goal
 
 pub returns-then-count-eq0 : goal.returns-then-count-eq0
 returns-then-count-eq0 c =
-    record { count = c.requires.0; is = λ n h. sym (winding-none c.args.period (byColumns n) c.args.ring.now (get_or c.args.cells.now n (pos 0)) c.if-count-eq0.true) }
+    record { count = c.requires.0; is = λ n h. sym (winding_none c.args.period (by_columns n) c.args.ring.now (get_or c.args.cells.now n (pos 0)) c.if-count-eq0.true) }
 
 pub loop-k-init : goal.loop-k-init
 loop-k-init c = (
@@ -25,7 +25,7 @@ loop-k-init c = (
   omega arith,
   c.requires.0,
   λ n h. omega arith,
-  λ n h. winding-start c.args.period (byColumns n) c.args.ring.now (get_or c.args.cells.now n (pos 0)) (omega arith),
+  λ n h. winding_start c.args.period (by_columns n) c.args.ring.now (get_or c.args.cells.now n (pos 0)) (omega arith),
 )
 
 pub add_segment-requires : goal.add_segment-requires
@@ -41,8 +41,8 @@ loop-k-preserved c =
       omega arith,
       omega arith,
       sums.count,
-      λ n h. rw (sums.is n h) (omega (arith, c.loop-k.invariant.3 n h, sum-small (get_or c.loop-k.cells n (pos 0)) (stepOf x.period (byColumns n) (segment a (pointAt ring k))), step-small x.period (byColumns n) (segment a (pointAt ring k)))),
-      λ n h. rw (sums.is n h) (sym (ap (foldl (windStep x.period (byColumns n)) (get_or c.loop-k.cells n (pos 0))) (walk-step ring (pointAt ring 0 ∷ []) a k (omega arith))) ∙ c.loop-k.invariant.4 n h),
+      λ n h. rw (sums.is n h) (omega (arith, c.loop-k.invariant.3 n h, sum_small (get_or c.loop-k.cells n (pos 0)) (step_of x.period (by_columns n) (segment a (point_at ring k))), step_small x.period (by_columns n) (segment a (point_at ring k)))),
+      λ n h. rw (sums.is n h) (sym (ap (foldl (wind_step x.period (by_columns n)) (get_or c.loop-k.cells n (pos 0))) (walk_step ring (point_at ring 0 ∷ []) a k (omega arith))) ∙ c.loop-k.invariant.4 n h),
     )
 
 pub add_segment-requires-2 : goal.add_segment-requires-2
@@ -55,5 +55,5 @@ returns c =
     let sums = c.add_segment-2.ensures in
     record {
       count = sums.count;
-      is = λ n h. sums.is n h ∙ sym (ap (foldl (windStep x.period (byColumns n)) (get_or c.loop-k.cells n (pos 0))) (left-end ring (point c.loop-k.a_u c.loop-k.a_v) c.loop-k.k (omega arith))) ∙ c.loop-k.invariant.4 n h;
+      is = λ n h. sums.is n h ∙ sym (ap (foldl (wind_step x.period (by_columns n)) (get_or c.loop-k.cells n (pos 0))) (left_end ring (point c.loop-k.a_u c.loop-k.a_v) c.loop-k.k (omega arith))) ∙ c.loop-k.invariant.4 n h;
     }

@@ -8,15 +8,15 @@ use lib.IntN.{pos}
 use lib.ListN.{length-take, length-drop}
 use Rattle.sheet.specs.Content.{point}
 use Rattle.points.specs.Segments.{gained, segment}
-use Rattle.inside.proofs.Cells.{none-changed, in-line, line-changed, all-changed}
-use Rattle.coverage.proofs.Columns.{step-in-column}
+use Rattle.inside.proofs.Cells.{none_changed, in_line, line_changed, all_changed}
+use Rattle.coverage.proofs.Columns.{step_in_column}
 use Rattle.coverage.proofs.winding.add_segment.Invariants.{plus}
 use Rattle.coverage.proofs.winding.add_segment.Goals as goal
 
 pub loop-i-init : goal.loop-i-init
 loop-i-init c =
     let x = c.args in
-    (omega arith, none-changed (pos 0) 961 (plus x.period x.a_u x.a_v x.b_u x.b_v) x.cells.now c.requires.0, λ m h k. absurd (omega arith))
+    (omega arith, none_changed (pos 0) 961 (plus x.period x.a_u x.a_v x.b_u x.b_v) x.cells.now c.requires.0, λ m h k. absurd (omega arith))
 
 pub turned-turn-requires : goal.turned-turn-requires
 turned-turn-requires c = (omega arith, c.loop-i.invariant.2)
@@ -29,7 +29,7 @@ add_column-requires c =
     let column : 31 * i + 31 - 31 * i ≡ 31 = omega arith in
     rw column (
       simp (length-take, length-drop) (omega arith),
-      λ m h. rw (in-line (pos 0) 961 (plus x.period x.a_u x.a_v x.b_u x.b_v) x.cells.now (31 * i) c.loop-i.cells c.loop-i.invariant.1 31 m h) (c.requires.1 (31 * i + m) (omega arith)),
+      λ m h. rw (in_line (pos 0) 961 (plus x.period x.a_u x.a_v x.b_u x.b_v) x.cells.now (31 * i) c.loop-i.cells c.loop-i.invariant.1 31 m h) (c.requires.1 (31 * i + m) (omega arith)),
     )
 
 pub loop-i-preserved : goal.loop-i-preserved
@@ -44,12 +44,12 @@ loop-i-preserved c =
     let column : 31 * i + 31 - 31 * i ≡ 31 = omega arith in (
       omega arith,
       rw column
-          (line-changed (pos 0) 961 change x.cells.now (31 * i) c.loop-i.cells c.loop-i.invariant.1 31 (31 * (i + 1)) (omega arith) (omega arith) _ _ (rw column at c.add_column.ensures)
-          (λ m h. rw (in-line (pos 0) 961 change x.cells.now (31 * i) c.loop-i.cells c.loop-i.invariant.1 31 m h, step-in-column x.period s i m h, c.part.ensures, ← copy, c.turns.ensures))),
+          (line_changed (pos 0) 961 change x.cells.now (31 * i) c.loop-i.cells c.loop-i.invariant.1 31 (31 * (i + 1)) (omega arith) (omega arith) _ _ (rw column at c.add_column.ensures)
+          (λ m h. rw (in_line (pos 0) 961 change x.cells.now (31 * i) c.loop-i.cells c.loop-i.invariant.1 31 m h, step_in_column x.period s i m h, c.part.ensures, ← copy, c.turns.ensures))),
       λ m h k. r.ensures.1 m (omega arith) k,
     )
 
 pub returns : goal.returns
 returns c =
     let x = c.args in
-    all-changed (pos 0) 961 (plus x.period x.a_u x.a_v x.b_u x.b_v) x.cells.now (31 * c.loop-i.i) c.loop-i.cells c.loop-i.invariant.1 (omega arith)
+    all_changed (pos 0) 961 (plus x.period x.a_u x.a_v x.b_u x.b_v) x.cells.now (31 * c.loop-i.i) c.loop-i.cells c.loop-i.invariant.1 (omega arith)

@@ -6,37 +6,37 @@ use mathlib.Core.List.{List}
 use native.Mathlib.Omega.{arith}
 use lib.ListN.{length}
 use Rattle.sheet.specs.Content.{Point}
-use Rattle.answers.proofs.AnyOf.{any-found, any-passed, any-none}
-use Rattle.points.specs.Joins.{ringOpen, every}
-use Rattle.frame.specs.Framing.{anyOpen}
-use Rattle.frame.proofs.Rings.{within, rings-step, rings-end}
+use Rattle.answers.proofs.AnyOf.{any_found, any_passed, any_none}
+use Rattle.points.specs.Joins.{ring_open, every}
+use Rattle.frame.specs.Framing.{any_open}
+use Rattle.frame.proofs.Rings.{within, rings_step, rings_end}
 use Rattle.frame.proofs.framing.joins_open.Goals as goal
 
 pub loop-k-init : goal.loop-k-init
 loop-k-init c = (omega arith, c.requires, refl)
 
 pub returns-then-is_open : goal.returns-then-is_open
-unfolding anyOpen
+unfolding any_open
 returns-then-is_open c =
     let a = c.args in
-    let step = rings-step a.ends.now c.loop-k.k c.loop-k-test.true c.loop-k.from a.points.now in
-    sym (any-found (λ (r : List Point). ringOpen a.frame.periodic a.frame.scale_u a.frame.scale_v (every 16 0 r) r) step (sym c.is_open.ensures ∙ c.if-is_open.true)) ∙ c.loop-k.invariant.2
+    let step = rings_step a.ends.now c.loop-k.k c.loop-k-test.true c.loop-k.from a.points.now in
+    sym (any_found (λ (r : List Point). ring_open a.frame.periodic a.frame.scale_u a.frame.scale_v (every 16 0 r) r) step (sym c.is_open.ensures ∙ c.if-is_open.true)) ∙ c.loop-k.invariant.2
 
 pub loop-k-preserved : goal.loop-k-preserved
 loop-k-preserved c =
     let a = c.args in
     let more = c.loop-k-test.true in
-    let step = rings-step a.ends.now c.loop-k.k more c.loop-k.from a.points.now in (
+    let step = rings_step a.ends.now c.loop-k.k more c.loop-k.from a.points.now in (
       omega arith,
       (within a.ends.now c.loop-k.k more c.loop-k.from (length a.points.now) c.loop-k.invariant.1).rest,
-      sym (any-passed (λ (r : List Point). ringOpen a.frame.periodic a.frame.scale_u a.frame.scale_v (every 16 0 r) r) step (sym c.is_open.ensures ∙ c.if-is_open.false)) ∙ c.loop-k.invariant.2,
+      sym (any_passed (λ (r : List Point). ring_open a.frame.periodic a.frame.scale_u a.frame.scale_v (every 16 0 r) r) step (sym c.is_open.ensures ∙ c.if-is_open.false)) ∙ c.loop-k.invariant.2,
     )
 
 pub returns : goal.returns
-unfolding anyOpen
+unfolding any_open
 returns c =
     let a = c.args in
-    sym (any-none (λ (r : List Point). ringOpen a.frame.periodic a.frame.scale_u a.frame.scale_v (every 16 0 r) r) (rings-end a.ends.now c.loop-k.k c.loop-k-test.false c.loop-k.from a.points.now)) ∙ c.loop-k.invariant.2
+    sym (any_none (λ (r : List Point). ring_open a.frame.periodic a.frame.scale_u a.frame.scale_v (every 16 0 r) r) (rings_end a.ends.now c.loop-k.k c.loop-k-test.false c.loop-k.from a.points.now)) ∙ c.loop-k.invariant.2
 
 pub offset_bounds-points-from : goal.offset_bounds-points-from
 offset_bounds-points-from c = let w = within c.args.ends.now c.loop-k.k c.loop-k-test.true c.loop-k.from (length c.args.points.now) c.loop-k.invariant.1 in omega (arith, w.up, w.bound)

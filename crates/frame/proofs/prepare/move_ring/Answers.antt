@@ -1,8 +1,8 @@
 -- `frame::prepare::move_ring` meets its contract, by those of `read` and `unroll`: the list has room for just the
 -- ring's points.
-use Rattle.frame.proofs.Preparing.{ring-moved}
+use Rattle.frame.proofs.Preparing.{ring_moved}
 use Rattle.frame.proofs.prepare.move_ring.Goals as goal
 
 pub returns : goal.returns
 returns c =
-    ring-moved c.args.kind c.args.phase c.args.block.now c.args.points.now _ _ c.requires c.read.ensures c.unroll.ensures
+    ring_moved c.args.kind c.args.phase c.args.block.now c.args.points.now _ _ c.requires c.read.ensures c.unroll.ensures

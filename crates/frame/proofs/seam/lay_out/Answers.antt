@@ -9,113 +9,113 @@ use native.Mathlib.Omega.{arith}
 use lib.ListN.{length, drop}
 use Rattle.answers.specs.Outcome.{first}
 use Rattle.sheet.specs.Content.{Point, flat, pairs}
-use Rattle.sheet.specs.Layout.{kind, headSize, ringCount, sheetOf}
-use Rattle.sheet.proofs.Checked.{head-size-most}
-use Rattle.frame.specs.Frame.{frameOf, framed, periodicOf, bandOf}
-use Rattle.frame.specs.Framing.{frame, joinRows, joinChecks}
-use Rattle.frame.specs.Parts.{endsFrom, ringsFrom, Packed}
-use Rattle.frame.specs.Seam.{fitting, laidPoints, laidEnds}
-use Rattle.frame.specs.Stages.{movedBlocks, openEvery}
+use Rattle.sheet.specs.Layout.{kind, head_size, ring_count, sheet_of}
+use Rattle.sheet.proofs.Checked.{head_size_most}
+use Rattle.frame.specs.Frame.{frame_of, framed, periodic_of, band_of}
+use Rattle.frame.specs.Framing.{frame, join_rows, join_checks}
+use Rattle.frame.specs.Parts.{ends_from, rings_from, Packed}
+use Rattle.frame.specs.Seam.{fitting, laid_points, laid_ends}
+use Rattle.frame.specs.Stages.{moved_blocks, open_every}
 use Rattle.frame.specs.declared.framing.Frame.{Frame}
 use Rattle.frame.specs.declared.seam.Framed.TheVariants.{Ready}
-use Rattle.frame.proofs.Counting.{ring-number}
-use Rattle.frame.proofs.LaidOut.{Fitting, fitting-is, laid-points, laid-ends, unlaid, framed-ready, framed-refused}
-use Rattle.frame.proofs.Parting.{packed, packed-ascends, packed-points, rings-are}
-use Rattle.frame.proofs.SheetFrame.{sheet-moved, sheet-frame, sheet-rows, numbers-count}
+use Rattle.frame.proofs.Counting.{ring_number}
+use Rattle.frame.proofs.LaidOut.{Fitting, fitting_is, laid_points_lem, laid_ends_lem, unlaid, framed_ready, framed_refused}
+use Rattle.frame.proofs.Parting.{packed, packed_ascends, packed_points, rings_are}
+use Rattle.frame.proofs.SheetFrame.{sheet_moved, sheet_frame, sheet_rows, numbers_count}
 use Rattle.frame.proofs.seam.lay_out.Goals as goal
 
 -- the rings of s, moved, as the code goes over its blocks
 abbrev rings : List ℕ → ℕ → List (List Point)
-rings s phase = movedBlocks (kind s) phase (ringCount s) (drop (headSize (kind s)) s)
+rings s phase = moved_blocks (kind s) phase (ring_count s) (drop (head_size (kind s)) s)
 
 -- the lists after `prepare`
 record Prepared (s : List ℕ) (phase : ℕ) (points : List Float) (ends : List ℕ) : Type 0 where
-  points-are : points ≡ flat (flatten (rings s phase))
-  ends-are : ends ≡ endsFrom 0 (rings s phase)
+  points_are : points ≡ flat (flatten (rings s phase))
+  ends_are : ends ≡ ends_from 0 (rings s phase)
 
-prepared : (s : List ℕ) (phase : ℕ) {points : List Float} {ends : List ℕ} {k start count : ℕ} → k ≡ kind s → start ≡ headSize k → count ≡ ringCount s →
-    (points ≡ flat (flatten (movedBlocks k phase count (drop start s)))) × (ends ≡ endsFrom 0 (movedBlocks k phase count (drop start s))) → Prepared s phase points ends
-prepared s phase e f g h = let q = rw (f, e, g) at h in record { points-are = q.0; ends-are = q.1 }
+prepared : (s : List ℕ) (phase : ℕ) {points : List Float} {ends : List ℕ} {k start count : ℕ} → k ≡ kind s → start ≡ head_size k → count ≡ ring_count s →
+    (points ≡ flat (flatten (moved_blocks k phase count (drop start s)))) × (ends ≡ ends_from 0 (moved_blocks k phase count (drop start s))) → Prepared s phase points ends
+prepared s phase e f g h = let q = rw (f, e, g) at h in record { points_are = q.0; ends_are = q.1 }
 
 module _ {s : List ℕ} {phase : ℕ} {points : List Float} {ends : List ℕ} (p : Prepared s phase points ends) where
-  packed-in : Packed ends points
-  packed-in = rw (p.points-are, p.ends-are) (packed _)
+  packed_in : Packed ends points
+  packed_in = rw (p.points_are, p.ends_are) (packed _)
 
-  rings-back : ringsFrom 0 ends points ≡ rings s phase
-  rings-back = ap₂ (ringsFrom 0) p.ends-are p.points-are ∙ rings-are _
+  rings_back : rings_from 0 ends points ≡ rings s phase
+  rings_back = ap₂ (rings_from 0) p.ends_are p.points_are ∙ rings_are _
 
   -- the frame is the sheet's
-  frame-is : (k : ℕ) {f : Frame} → k ≡ kind s → f ≡ framed (periodicOf k (bandOf k (ringsFrom 0 ends points))) (bandOf k (ringsFrom 0 ends points)) (pairs points) → f ≡ frame (sheetOf s) phase
-  unfolding frameOf
-  frame-is k e h =
-      let rs = ringsFrom 0 ends points in
+  frame_is : (k : ℕ) {f : Frame} → k ≡ kind s → f ≡ framed (periodic_of k (band_of k (rings_from 0 ends points))) (band_of k (rings_from 0 ends points)) (pairs points) → f ≡ frame (sheet_of s) phase
+  unfolding frame_of
+  frame_is k e h =
+      let rs = rings_from 0 ends points in
       h
-      ∙ ap (λ (ps : List Point). framed (periodicOf k (bandOf k rs)) (bandOf k rs) ps) (packed-points packed-in)
-      ∙ ap₂ (λ (k : ℕ) (rs : List (List Point)). framed (periodicOf k (bandOf k rs)) (bandOf k rs) (flatten rs)) e rings-back
-      ∙ sym (sheet-frame s phase)
+      ∙ ap (λ (ps : List Point). framed (periodic_of k (band_of k rs)) (band_of k rs) ps) (packed_points packed_in)
+      ∙ ap₂ (λ (k : ℕ) (rs : List (List Point)). framed (periodic_of k (band_of k rs)) (band_of k rs) (flatten rs)) e rings_back
+      ∙ sym (sheet_frame s phase)
 
   -- and so are its checks
-  number-is : {n : ℕ} {f : Frame} → f ≡ frame (sheetOf s) phase → n ≡ first (joinRows f (openEvery f (ringsFrom 0 ends points))) → n ≡ first (joinChecks (sheetOf s) phase)
-  number-is e h =
+  number_is : {n : ℕ} {f : Frame} → f ≡ frame (sheet_of s) phase → n ≡ first (join_rows f (open_every f (rings_from 0 ends points))) → n ≡ first (join_checks (sheet_of s) phase)
+  number_is e h =
       h
-      ∙ ap₂ (λ (f : Frame) (rs : List (List Point)). first (joinRows f (openEvery f rs))) (e ∙ sheet-frame s phase) rings-back
-      ∙ ap first (sym (sheet-rows s phase))
+      ∙ ap₂ (λ (f : Frame) (rs : List (List Point)). first (join_rows f (open_every f rs))) (e ∙ sheet_frame s phase) rings_back
+      ∙ ap first (sym (sheet_rows s phase))
 
-  points-laid : {fits : Bool} (old : List Float) → fits ≡ true → points ≡ laidPoints fits (sheetOf s) phase old
-  points-laid old fits = p.points-are ∙ ap (λ (rs : List (List Point)). flat (flatten rs)) (sym (sheet-moved s phase)) ∙ sym (laid-points (sheetOf s) phase old fits)
+  points_laid : {fits : Bool} (old : List Float) → fits ≡ true → points ≡ laid_points fits (sheet_of s) phase old
+  points_laid old fits = p.points_are ∙ ap (λ (rs : List (List Point)). flat (flatten rs)) (sym (sheet_moved s phase)) ∙ sym (laid_points_lem (sheet_of s) phase old fits)
 
-  ends-laid : {fits : Bool} (old : List ℕ) → fits ≡ true → ends ≡ laidEnds fits (sheetOf s) phase old
-  ends-laid old fits = p.ends-are ∙ ap (endsFrom 0) (sym (sheet-moved s phase)) ∙ sym (laid-ends (sheetOf s) phase old fits)
+  ends_laid : {fits : Bool} (old : List ℕ) → fits ≡ true → ends ≡ laid_ends fits (sheet_of s) phase old
+  ends_laid old fits = p.ends_are ∙ ap (ends_from 0) (sym (sheet_moved s phase)) ∙ sym (laid_ends_lem (sheet_of s) phase old fits)
 
 -- the number of ends is the sheet's ring count
-ends-count : (s : List ℕ) {numbers ends : ℕ} → Fitting (sheetOf s) numbers ends → ends ≡ ringCount s
-ends-count s fitted = fitted.ends-are ∙ ring-number s
+ends_count : (s : List ℕ) {numbers ends : ℕ} → Fitting (sheet_of s) numbers ends → ends ≡ ring_count s
+ends_count s fitted = fitted.ends_are ∙ ring_number s
 
 pub returns-then-not-is_fitting : goal.returns-then-not-is_fitting
-returns-then-not-is_fitting c = unlaid (sheetOf c.args.s.now) c.args.phase (sym c.is_fitting.ensures ∙ c.if-not-is_fitting.true)
+returns-then-not-is_fitting c = unlaid (sheet_of c.args.s.now) c.args.phase (sym c.is_fitting.ensures ∙ c.if-not-is_fitting.true)
 
 pub prepare-requires : goal.prepare-requires
 prepare-requires c =
     let s = c.args.s.now in
-    let fitted : Fitting (sheetOf s) (length c.args.points.now) (length c.args.ends.now) = fitting-is _ _ _ (sym c.is_fitting.ensures ∙ c.if-not-is_fitting.false) in
-    let byte-most : ringCount s ≤ 255 = omega (arith, c.type_inv.s 7) in
-    rw (c.head_size.ensures, ends-count s fitted, c.byte_at-kind.ensures)
-    (head-size-most (kind s), byte-most, fitted.points-are ∙ sym (numbers-count s c.args.phase))
+    let fitted : Fitting (sheet_of s) (length c.args.points.now) (length c.args.ends.now) = fitting_is _ _ _ (sym c.is_fitting.ensures ∙ c.if-not-is_fitting.false) in
+    let byte_most : ring_count s ≤ 255 = omega (arith, c.type_inv.s 7) in
+    rw (c.head_size.ensures, ends_count s fitted, c.byte_at-kind.ensures)
+    (head_size_most (kind s), byte_most, fitted.points_are ∙ sym (numbers_count s c.args.phase))
 
 pub frame_of-frame-requires : goal.frame_of-frame-requires
 frame_of-frame-requires c =
     let s = c.args.s.now in
-    let fits : fitting (sheetOf s) (length c.args.points.now) (length c.args.ends.now) ≡ true = sym c.is_fitting.ensures ∙ c.if-not-is_fitting.false in
-    let laid = prepared s c.args.phase c.byte_at-kind.ensures c.head_size.ensures (ends-count s (fitting-is _ _ _ fits)) c.prepare.ensures in
-    packed-ascends (packed-in laid)
+    let fits : fitting (sheet_of s) (length c.args.points.now) (length c.args.ends.now) ≡ true = sym c.is_fitting.ensures ∙ c.if-not-is_fitting.false in
+    let laid = prepared s c.args.phase c.byte_at-kind.ensures c.head_size.ensures (ends_count s (fitting_is _ _ _ fits)) c.prepare.ensures in
+    packed_ascends (packed_in laid)
 
 pub joins_refusal-number-requires : goal.joins_refusal-number-requires
 joins_refusal-number-requires c =
     let s = c.args.s.now in
-    let fits : fitting (sheetOf s) (length c.args.points.now) (length c.args.ends.now) ≡ true = sym c.is_fitting.ensures ∙ c.if-not-is_fitting.false in
-    let laid = prepared s c.args.phase c.byte_at-kind.ensures c.head_size.ensures (ends-count s (fitting-is _ _ _ fits)) c.prepare.ensures in
-    packed-ascends (packed-in laid)
+    let fits : fitting (sheet_of s) (length c.args.points.now) (length c.args.ends.now) ≡ true = sym c.is_fitting.ensures ∙ c.if-not-is_fitting.false in
+    let laid = prepared s c.args.phase c.byte_at-kind.ensures c.head_size.ensures (ends_count s (fitting_is _ _ _ fits)) c.prepare.ensures in
+    packed_ascends (packed_in laid)
 
 pub returns-then-number-eq0 : goal.returns-then-number-eq0
 returns-then-number-eq0 c =
     let s = c.args.s.now in
-    let fits : fitting (sheetOf s) (length c.args.points.now) (length c.args.ends.now) ≡ true = sym c.is_fitting.ensures ∙ c.if-not-is_fitting.false in
-    let laid = prepared s c.args.phase c.byte_at-kind.ensures c.head_size.ensures (ends-count s (fitting-is _ _ _ fits)) c.prepare.ensures in
-    let same = frame-is laid _ c.byte_at-kind.ensures c.frame_of-frame.ensures in
-    let number = number-is laid same c.joins_refusal-number.ensures in (
-      ap Ready same ∙ framed-ready (sheetOf s) c.args.phase fits (sym number ∙ c.if-number-eq0.true),
-      points-laid laid c.args.points.now fits,
-      ends-laid laid c.args.ends.now fits,
+    let fits : fitting (sheet_of s) (length c.args.points.now) (length c.args.ends.now) ≡ true = sym c.is_fitting.ensures ∙ c.if-not-is_fitting.false in
+    let laid = prepared s c.args.phase c.byte_at-kind.ensures c.head_size.ensures (ends_count s (fitting_is _ _ _ fits)) c.prepare.ensures in
+    let same = frame_is laid _ c.byte_at-kind.ensures c.frame_of-frame.ensures in
+    let number = number_is laid same c.joins_refusal-number.ensures in (
+      ap Ready same ∙ framed_ready (sheet_of s) c.args.phase fits (sym number ∙ c.if-number-eq0.true),
+      points_laid laid c.args.points.now fits,
+      ends_laid laid c.args.ends.now fits,
     )
 
 pub returns-else-number-eq0 : goal.returns-else-number-eq0
 returns-else-number-eq0 c =
     let s = c.args.s.now in
-    let fits : fitting (sheetOf s) (length c.args.points.now) (length c.args.ends.now) ≡ true = sym c.is_fitting.ensures ∙ c.if-not-is_fitting.false in
-    let laid = prepared s c.args.phase c.byte_at-kind.ensures c.head_size.ensures (ends-count s (fitting-is _ _ _ fits)) c.prepare.ensures in
-    let same = frame-is laid _ c.byte_at-kind.ensures c.frame_of-frame.ensures in
-    let number = number-is laid same c.joins_refusal-number.ensures in (
-      framed-refused (sheetOf s) c.args.phase c.joins_refusal-number.result fits number c.if-number-eq0.false,
-      points-laid laid c.args.points.now fits,
-      ends-laid laid c.args.ends.now fits,
+    let fits : fitting (sheet_of s) (length c.args.points.now) (length c.args.ends.now) ≡ true = sym c.is_fitting.ensures ∙ c.if-not-is_fitting.false in
+    let laid = prepared s c.args.phase c.byte_at-kind.ensures c.head_size.ensures (ends_count s (fitting_is _ _ _ fits)) c.prepare.ensures in
+    let same = frame_is laid _ c.byte_at-kind.ensures c.frame_of-frame.ensures in
+    let number = number_is laid same c.joins_refusal-number.ensures in (
+      framed_refused (sheet_of s) c.args.phase c.joins_refusal-number.result fits number c.if-number-eq0.false,
+      points_laid laid c.args.points.now fits,
+      ends_laid laid c.args.ends.now fits,
     )

@@ -7,8 +7,8 @@ use Prim.Native.Nat.{◌+◌, ◌-◌, ◌*◌}
 use native.Mathlib.Omega.{arith}
 use lib.ListN.{get_or}
 use Rattle.sheet.specs.Content.{point}
-use Rattle.inside.proofs.Cells.{none-changed, passed, in-line, line-changed, all-changed}
-use Rattle.inside.proofs.Flips.{row-flips, still-before, still-after}
+use Rattle.inside.proofs.Cells.{none_changed, passed, in_line, line_changed, all_changed}
+use Rattle.inside.proofs.Flips.{row_flips, still_before, still_after}
 use Rattle.inside.proofs.lines.flip_rows.Invariants.{edge}
 use Rattle.inside.proofs.lines.flip_rows.Goals as goal
 
@@ -22,8 +22,8 @@ loop-j-init c =
       omega arith,
       omega arith,
       omega arith,
-      passed false 961 (edge x.a_u x.a_v x.b_u x.b_v) old 0 old (none-changed false 961 (edge x.a_u x.a_v x.b_u x.b_v) old c.requires.1) (31 * x.low) (omega arith)
-          (λ k h l. still-before (point x.a_u x.a_v) (point x.b_u x.b_v) x.low x.high p k (omega arith) l (get_or old k false)),
+      passed false 961 (edge x.a_u x.a_v x.b_u x.b_v) old 0 old (none_changed false 961 (edge x.a_u x.a_v x.b_u x.b_v) old c.requires.1) (31 * x.low) (omega arith)
+          (λ k h l. still_before (point x.a_u x.a_v) (point x.b_u x.b_v) x.low x.high p k (omega arith) l (get_or old k false)),
     )
 
 pub lines_below-count-requires : goal.lines_below-count-requires
@@ -43,9 +43,9 @@ loop-j-preserved c =
       omega arith,
       omega arith,
       rw row
-          (line-changed false 961 (edge x.a_u x.a_v x.b_u x.b_v) old (31 * j) c.loop-j.cells inv 31 (31 * (j + 1)) (omega arith) (omega arith) _ _ (rw row at c.flip_row.ensures)
-          (λ m h. rw (in-line false 961 (edge x.a_u x.a_v x.b_u x.b_v) old (31 * j) c.loop-j.cells inv 31 m h)
-          (row-flips (point x.a_u x.a_v) (point x.b_u x.b_v) x.low x.high p j m c.lines_below-count.result (omega arith) (omega arith) h below (get_or old (31 * j + m) false)))),
+          (line_changed false 961 (edge x.a_u x.a_v x.b_u x.b_v) old (31 * j) c.loop-j.cells inv 31 (31 * (j + 1)) (omega arith) (omega arith) _ _ (rw row at c.flip_row.ensures)
+          (λ m h. rw (in_line false 961 (edge x.a_u x.a_v x.b_u x.b_v) old (31 * j) c.loop-j.cells inv 31 m h)
+          (row_flips (point x.a_u x.a_v) (point x.b_u x.b_v) x.low x.high p j m c.lines_below-count.result (omega arith) (omega arith) h below (get_or old (31 * j + m) false)))),
     )
 
 pub returns : goal.returns
@@ -54,7 +54,7 @@ returns c =
     let p = c.requires.0 in
     let top = p.most in
     let old = x.cells.now in
-    all-changed false 961 (edge x.a_u x.a_v x.b_u x.b_v) old 961 c.loop-j.cells
+    all_changed false 961 (edge x.a_u x.a_v x.b_u x.b_v) old 961 c.loop-j.cells
     (passed false 961 (edge x.a_u x.a_v x.b_u x.b_v) old (31 * c.loop-j.j) c.loop-j.cells c.loop-j.invariant.3 961 (omega arith)
-    (λ k h g. still-after (point x.a_u x.a_v) (point x.b_u x.b_v) x.low x.high p k g (omega arith) (get_or old k false)))
+    (λ k h g. still_after (point x.a_u x.a_v) (point x.b_u x.b_v) x.low x.high p k g (omega arith) (get_or old k false)))
     (omega arith)

@@ -1,15 +1,15 @@
--- `leaves::bounds::clamp` is `clampOf`: each arm is what the tests pick.
-use Rattle.leaves.specs.Bounds.{clampOf}
+-- `leaves::bounds::clamp` is `clamp_of`: each arm is what the tests pick.
+use Rattle.leaves.specs.Bounds.{clamp_of}
 use Rattle.leaves.proofs.bounds.clamp.Goals as goal
 
 pub returns-then-x-low : goal.returns-then-x-low
-unfolding clampOf
+unfolding clamp_of
 returns-then-x-low c = rw c.if-x-low.true
 
 pub returns-then-high-x : goal.returns-then-high-x
-unfolding clampOf
+unfolding clamp_of
 returns-then-high-x c = rw (c.if-x-low.false, c.if-high-x.true)
 
 pub returns-else-high-x : goal.returns-else-high-x
-unfolding clampOf
+unfolding clamp_of
 returns-else-high-x c = rw (c.if-x-low.false, c.if-high-x.false)

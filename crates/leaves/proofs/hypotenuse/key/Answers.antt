@@ -1,8 +1,8 @@
--- `leaves::hypotenuse::key` is `keyOf`, operation by operation.
+-- `leaves::hypotenuse::key` is `key_of`, operation by operation.
 use Rattle.std.proofs.Common.{refl}
-use Rattle.leaves.specs.Hypot.{keyOf}
+use Rattle.leaves.specs.Hypot.{key_of}
 use Rattle.leaves.proofs.hypotenuse.key.Goals as goal
 
 pub returns : goal.returns
-unfolding keyOf
+unfolding key_of
 returns c = refl

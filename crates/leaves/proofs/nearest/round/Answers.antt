@@ -1,19 +1,19 @@
--- `leaves::nearest::round` is `roundOf`: a negative value is rounded as its magnitude is, and what is not rounded has
+-- `leaves::nearest::round` is `round_of`: a negative value is rounded as its magnitude is, and what is not rounded has
 -- no fraction. From 2 ^ 52 on no value has one.
 use Rattle.std.proofs.Common.{◌≡◌, ◌+◌, ◌*◌, ◌^◌, Bool, true, false, not, T, sym, refl, ap, ◌∙◌, subst, arith, ltb→lt, lt→ltb, nltb→le}
 use lib.Ieee.{Float, nan, inf, fin, binary64, up, down, lt, neg, fits, of_bits}
 use lib.Ieee.Fits.{neg-fits}
-use Rattle.leaves.specs.Constants.{plusZero}
-use Rattle.leaves.specs.Round.{roundOf}
-use Rattle.leaves.proofs.Signs.{neg-neg}
-use Rattle.leaves.proofs.Wholes.{round-large, round-neg, round-zero}
+use Rattle.leaves.specs.Constants.{plus_zero}
+use Rattle.leaves.specs.Round.{round_of}
+use Rattle.leaves.proofs.Signs.{neg_neg}
+use Rattle.leaves.proofs.Wholes.{round_large, round_neg, round_zero}
 use Rattle.leaves.proofs.nearest.round.Goals as goal
 
-turned : (x : Float) → neg (roundOf (neg x)) ≡ roundOf x
-unfolding roundOf
-turned x = ap neg (round-neg binary64 x) ∙ neg-neg (roundOf x)
+turned : (x : Float) → neg (round_of (neg x)) ≡ round_of x
+unfolding round_of
+turned x = ap neg (round_neg binary64 x) ∙ neg_neg (round_of x)
 
-above : (x : Float) → T (lt x plusZero) → T (lt plusZero (neg x))
+above : (x : Float) → T (lt x plus_zero) → T (lt plus_zero (neg x))
 unfolding lt of_bits neg
 above nan p = absurd p
 above (inf true) p = tt
@@ -21,19 +21,19 @@ above (inf false) p = absurd p
 above (fin true m e) p = lt→ltb (0 * 2 ^ 0 * down e) (m * up e * 1) (omega (arith, ltb→lt 0 (m * up e * 1 + 0 * 2 ^ 0 * down e) p))
 above (fin false m e) p = absurd (omega (arith, ltb→lt (m * up e * 1) (0 * 2 ^ 0 * down e) p))
 
-large : (x : Float) → T (fits binary64 x) → T (lt plusZero x) → T (not (lt x (of_bits binary64 0x4330000000000000))) → x ≡ roundOf x
-unfolding lt of_bits roundOf
+large : (x : Float) → T (fits binary64 x) → T (lt plus_zero x) → T (not (lt x (of_bits binary64 0x4330000000000000))) → x ≡ round_of x
+unfolding lt of_bits round_of
 large nan h p q = refl
 large (inf s) h p q = refl
 large (fin true m e) h p q = absurd p
-large (fin false m e) h p q = sym (round-large binary64 false m e h (omega (arith, nltb→le (m * up e * 1) (1 * 2 ^ 52 * down e) q)))
+large (fin false m e) h p q = sym (round_large binary64 false m e h (omega (arith, nltb→le (m * up e * 1) (1 * 2 ^ 52 * down e) q)))
 
-neither : (x : Float) → T (fits binary64 x) → T (not (lt plusZero x)) → T (not (lt x plusZero)) → x ≡ roundOf x
-unfolding lt of_bits roundOf
+neither : (x : Float) → T (fits binary64 x) → T (not (lt plus_zero x)) → T (not (lt x plus_zero)) → x ≡ round_of x
+unfolding lt of_bits round_of
 neither nan h p q = refl
 neither (inf s) h p q = refl
-neither (fin true m e) h p q = sym (round-zero binary64 true m e h (omega (arith, nltb→le 0 (m * up e * 1 + 0 * 2 ^ 0 * down e) q)))
-neither (fin false m e) h p q = sym (round-zero binary64 false m e h (omega (arith, nltb→le (0 * 2 ^ 0 * down e) (m * up e * 1) p)))
+neither (fin true m e) h p q = sym (round_zero binary64 true m e h (omega (arith, nltb→le 0 (m * up e * 1 + 0 * 2 ^ 0 * down e) q)))
+neither (fin false m e) h p q = sym (round_zero binary64 false m e h (omega (arith, nltb→le (0 * 2 ^ 0 * down e) (m * up e * 1) p)))
 
 passed : {b : Bool} → b ≡ true → T b
 passed e = subst T (sym e) tt
@@ -53,7 +53,7 @@ returns-then-x-4 c = ap neg c.nearest_whole-then-x-4.ensures ∙ turned c.args.x
 pub returns-else-x-4 : goal.returns-else-x-4
 returns-else-x-4 c =
     let x = c.args.x in
-    sym (neg-neg x) ∙ ap neg (large (neg x) (neg-fits binary64 x (passed c.well_formed.0.1)) (above x (passed c.if-x-3.true)) (failed c.if-x-4.false)) ∙ turned x
+    sym (neg_neg x) ∙ ap neg (large (neg x) (neg-fits binary64 x (passed c.well_formed.0.1)) (above x (passed c.if-x-3.true)) (failed c.if-x-4.false)) ∙ turned x
 
 pub returns-else-x-3 : goal.returns-else-x-3
 returns-else-x-3 c = neither c.args.x (passed c.well_formed.0.1) (failed c.if-x.false) (failed c.if-x-3.false)

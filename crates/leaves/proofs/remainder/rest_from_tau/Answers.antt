@@ -3,11 +3,11 @@ use Rattle.std.proofs.Common.{◌≡◌, ℕ, ◌+◌, ◌-◌, ◌*◌, ◌/◌
 use lib.Ieee.{Float, binary64, to_bits, fits, le, in_float, of_bits, div}
 use lib.IntN.{pos}
 use Rattle.leaves.specs.Constants.{tau}
-use Rattle.leaves.proofs.Remainders.{FromTau, from-tau, parts-value}
+use Rattle.leaves.proofs.Remainders.{FromTau, from_tau, parts_value}
 use Rattle.leaves.proofs.remainder.rest_from_tau.Goals as goal
 
 read : (x : Float) → fits binary64 x ≡ true → T (le tau x) → FromTau x (to_bits binary64 x / 2 ^ 52) (to_bits binary64 x % 2 ^ 52)
-read x h l = from-tau x (subst T (sym h) tt) l
+read x h l = from_tau x (subst T (sym h) tt) l
 
 few : (n a : ℕ) → n ≡ a % 7074237752028440 → n < 2 ^ 53
 few n a e = rw e (lt_of_lt_of_le (mod-lt a (lit< tt)) (lit≤ tt))
@@ -28,5 +28,5 @@ int_to_float-result c = held c.parts_left.result (few _ _ c.parts_left.ensures)
 
 pub returns : goal.returns
 returns c =
-    parts-value c.parts_left.result (few _ _ c.parts_left.ensures)
+    parts_value c.parts_left.result (few _ _ c.parts_left.ensures)
     ∙ rw c.parts_left.ensures (sym ((read c.args.x c.well_formed.0.1 c.requires).remainder c.if-field-eq2047.false))

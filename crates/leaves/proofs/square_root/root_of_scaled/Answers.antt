@@ -1,7 +1,7 @@
 -- `leaves::square_root::root_of_scaled`: an odd exponent gives one of its twos to the significand.
 use Rattle.std.proofs.Common.{◌≡◌, ℕ, suc, ◌*◌, ◌/◌, ◌%◌, ◌^◌, sym, ap, ◌∙◌, mul_assoc, arith}
 use native.Mathlib.Nat.{pow-succ'}
-use Rattle.leaves.proofs.PackedRoots.{at-fraction}
+use Rattle.leaves.proofs.PackedRoots.{at_fraction}
 use Rattle.leaves.proofs.square_root.root_of_scaled.Goals as goal
 
 odd : (s e : ℕ) → (e % 2 ≡ 0 → ⊥) → s * 2 * 2 ^ (2 * (e / 2)) ≡ s * 2 ^ e
@@ -14,4 +14,4 @@ pub returns-else-exponent-eq0 : goal.returns-else-exponent-eq0
 returns-else-exponent-eq0 c =
     let s = c.args.significand in
     let e = c.args.exponent in
-    at-fraction c.root_of_even-else-exponent-eq0.result (s * 2 * 2 ^ (2 * (e / 2))) (s * 2 ^ e) 2096 (odd s e c.if-exponent-eq0.false) c.root_of_even-else-exponent-eq0.ensures
+    at_fraction c.root_of_even-else-exponent-eq0.result (s * 2 * 2 ^ (2 * (e / 2))) (s * 2 ^ e) 2096 (odd s e c.if-exponent-eq0.false) c.root_of_even-else-exponent-eq0.ensures

@@ -1,7 +1,7 @@
 -- `leaves::square_root::root_of_subnormal`: the digits are moved up by as many places as the exponent goes down.
 use Rattle.std.proofs.Common.{◌≡◌, ℕ, ◌+◌, ◌-◌, ◌*◌, ◌%◌, ◌^◌, ◌<◌, ◌≤◌, sym, refl, ap, ◌∙◌, subst, lt_of_lt_of_le, mod-eq_of_lt, mul_assoc, arith, lit≤, pow-add}
 use lib.Count.{count_leading_zeros}
-use Rattle.leaves.proofs.PackedRoots.{at-fraction, lowered, Moved, moved}
+use Rattle.leaves.proofs.PackedRoots.{at_fraction, lowered, Moved, moved}
 use Rattle.leaves.proofs.square_root.root_of_subnormal.Goals as goal
 
 -- the place of the highest set digit
@@ -26,7 +26,7 @@ returns c =
     let low = c.args.low in
     let places = count_leading_zeros 64 low - 11 in
     lowered c.root_of_scaled.result low 1074 1022
-    (at-fraction c.root_of_scaled.result (low * 2 ^ places % 2 ^ 64 * 2 ^ (1022 - places)) (low * 2 ^ 1022) 2096
+    (at_fraction c.root_of_scaled.result (low * 2 ^ places % 2 ^ 64 * 2 ^ (1022 - places)) (low * 2 ^ 1022) 2096
     (ap (λ (z : ℕ). z * 2 ^ (1022 - places)) (kept c.before) ∙ mul_assoc low (2 ^ places) (2 ^ (1022 - places)) ∙ ap (λ (z : ℕ). low * z) (sym (pow-add 2 places (1022 - places)) ∙ ap (λ (z : ℕ). 2 ^ z) (whole places (at c.before).1.most)))
     c.root_of_scaled.ensures)
   where

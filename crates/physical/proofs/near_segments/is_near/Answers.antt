@@ -1,15 +1,15 @@
--- `physical::near_segments::is_near` is `isNear`: where the key of x and y reaches `far` the distance is above the
+-- `physical::near_segments::is_near` is `is_near`: where the key of x and y reaches `far` the distance is above the
 -- limit, and else it is worked out and held against it.
 use mathlib.Core.Path.{◌≡◌, refl, sym, ap, subst, ◌∙◌}
 use mathlib.Core.Bool.{Bool, true, false}
 use lib.Dec.{T}
 use lib.Ieee.{Float, le}
-use Rattle.leaves.specs.Hypot.{keyOf, hypotOfKey, hypotOf}
-use Rattle.leaves.proofs.Hypotenuses.{hypot-by-key, hypot3-by-key}
+use Rattle.leaves.specs.Hypot.{key_of, hypot_of_key, hypot_of}
+use Rattle.leaves.proofs.Hypotenuses.{hypot_by_key, hypot3_by_key}
 use Rattle.space.specs.declared.vectors.Place.{Place}
 use Rattle.points.specs.Segments.{Between, between}
 use Rattle.physical.specs.Space.{residual, distance}
-use Rattle.physical.specs.Stages.{Far, isNear}
+use Rattle.physical.specs.Stages.{Far, is_near}
 use Rattle.physical.proofs.near_segments.is_near.Goals as goal
 
 -- a test that cannot pass
@@ -18,19 +18,19 @@ refused true h = absurd (h tt)
 refused false h = refl
 
 module _ (limit : Float) (p : Place) (s : Between Place) where
-  is-far : (k : Float) → Far limit k → le k (keyOf (residual p s).x (residual p s).y) ≡ true → false ≡ isNear limit p s
-  unfolding isNear distance
-  is-far k far e = refused (le (distance p s) limit) (far.beyond (residual p s).x (residual p s).y (residual p s).z (subst T (sym e) tt))
+  is_far : (k : Float) → Far limit k → le k (key_of (residual p s).x (residual p s).y) ≡ true → false ≡ is_near limit p s
+  unfolding is_near distance
+  is_far k far e = refused (le (distance p s) limit) (far.beyond (residual p s).x (residual p s).y (residual p s).z (subst T (sym e) tt))
 
-  measured : le (hypotOf (hypotOfKey (keyOf (residual p s).x (residual p s).y)) (residual p s).z) limit ≡ isNear limit p s
-  unfolding isNear distance
-  measured = ap (λ (d : Float). le d limit) (ap (λ (h : Float). hypotOf h (residual p s).z) (sym (hypot-by-key (residual p s).x (residual p s).y)) ∙ hypot-by-key _ _ ∙ sym (hypot3-by-key (residual p s).x (residual p s).y (residual p s).z))
+  measured : le (hypot_of (hypot_of_key (key_of (residual p s).x (residual p s).y)) (residual p s).z) limit ≡ is_near limit p s
+  unfolding is_near distance
+  measured = ap (λ (d : Float). le d limit) (ap (λ (h : Float). hypot_of h (residual p s).z) (sym (hypot_by_key (residual p s).x (residual p s).y)) ∙ hypot_by_key _ _ ∙ sym (hypot3_by_key (residual p s).x (residual p s).y (residual p s).z))
 
 pub returns-then-far-key : goal.returns-then-far-key
 returns-then-far-key c =
     let x = c.args in
-    is-far x.limit x.p (between x.a x.b) x.far c.requires
-    (ap (le x.far) (ap (λ (d : Place). keyOf d.x d.y) (sym c.residual-rest.ensures) ∙ sym c.key-key.ensures) ∙ c.if-far-key.true)
+    is_far x.limit x.p (between x.a x.b) x.far c.requires
+    (ap (le x.far) (ap (λ (d : Place). key_of d.x d.y) (sym c.residual-rest.ensures) ∙ sym c.key-key.ensures) ∙ c.if-far-key.true)
 
 pub returns : goal.returns
 returns c =

@@ -7,31 +7,31 @@ use lib.Ieee.{Float}
 use lib.ListN.{drop}
 use Rattle.space.specs.declared.vectors.Place.{Place}
 use Rattle.sheet.specs.Content.{Point}
-use Rattle.sheet.specs.Layout.{numbers, sheetOf}
-use Rattle.frame.specs.Parts.{ringsFrom}
-use Rattle.physical.specs.Plane.{planeImagesOf}
-use Rattle.physical.specs.Stages.{axesOf, imageOf}
+use Rattle.sheet.specs.Layout.{numbers, sheet_of}
+use Rattle.frame.specs.Parts.{rings_from}
+use Rattle.physical.specs.Plane.{plane_images_of}
+use Rattle.physical.specs.Stages.{axes_of, image_of}
 use Rattle.physical.specs.declared.plane_points.Axes.{Axes}
-use Rattle.physical.proofs.Nearness.{ringsNear}
-use Rattle.physical.proofs.PlaneNumbers.{images-on-plane}
-use Rattle.physical.proofs.Threshold.{close-within, close-always}
+use Rattle.physical.proofs.Nearness.{rings_near}
+use Rattle.physical.proofs.PlaneNumbers.{images_on_plane}
+use Rattle.physical.proofs.Threshold.{close_within, close_always}
 use Rattle.physical.proofs.plane_closeness.is_plane_close.Goals as goal
 
 -- the images on the axes that were read are those on the plane
-on-plane : (limit : Float) (p : Place) (plane : List Float) (rings : List (List Point)) {axes : Axes} {near : Bool} → axes ≡ axesOf plane → near ≡ ringsNear limit p false (map (map (imageOf axes)) rings) → near ≡ ringsNear limit p false (planeImagesOf plane rings)
-on-plane limit p plane rings e n =
-    n ∙ ap (λ (a : Axes). ringsNear limit p false (map (map (imageOf a)) rings)) e ∙ ap (ringsNear limit p false) (images-on-plane plane rings)
+on_plane_lem : (limit : Float) (p : Place) (plane : List Float) (rings : List (List Point)) {axes : Axes} {near : Bool} → axes ≡ axes_of plane → near ≡ rings_near limit p false (map (map (image_of axes)) rings) → near ≡ rings_near limit p false (plane_images_of plane rings)
+on_plane_lem limit p plane rings e n =
+    n ∙ ap (λ (a : Axes). rings_near limit p false (map (map (image_of a)) rings)) e ∙ ap (rings_near limit p false) (images_on_plane plane rings)
 
 pub returns-then-is_passable : goal.returns-then-is_passable
 returns-then-is_passable c =
     let x = c.args in
     let plane = numbers 9 (drop 8 x.s.now) in
-    let rings = ringsFrom 0 x.ends.now x.points.now in
+    let rings = rings_from 0 x.ends.now x.points.now in
     let least = c.least_clearance-limit in
-    close-within (sheetOf x.s.now) x.p (planeImagesOf plane rings) least.ensures (sym c.is_passable.ensures ∙ c.if-is_passable.true) (on-plane least.result x.p plane rings c.axes_of.ensures c.any_plane_ring_near.ensures)
+    close_within (sheet_of x.s.now) x.p (plane_images_of plane rings) least.ensures (sym c.is_passable.ensures ∙ c.if-is_passable.true) (on_plane_lem least.result x.p plane rings c.axes_of.ensures c.any_plane_ring_near.ensures)
 
 pub returns-else-is_passable : goal.returns-else-is_passable
 returns-else-is_passable c =
     let x = c.args in
-    let rings = ringsFrom 0 x.ends.now x.points.now in
-    close-always (sheetOf x.s.now) x.p (planeImagesOf (numbers 9 (drop 8 x.s.now)) rings) c.least_clearance-limit.ensures (sym c.is_passable.ensures ∙ c.if-is_passable.false)
+    let rings = rings_from 0 x.ends.now x.points.now in
+    close_always (sheet_of x.s.now) x.p (plane_images_of (numbers 9 (drop 8 x.s.now)) rings) c.least_clearance-limit.ensures (sym c.is_passable.ensures ∙ c.if-is_passable.false)

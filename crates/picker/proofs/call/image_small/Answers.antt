@@ -4,16 +4,16 @@ use Prim.Native.Nat.{◌≤◌}
 use native.Mathlib.Omega.{arith}
 use lib.Seq.{length-take-le}
 use Rattle.sheet.proofs.Checked.{checked}
-use Rattle.picker.proofs.Calling.{image-reads}
+use Rattle.picker.proofs.Calling.{image_reads}
 use Rattle.picker.proofs.call.image_small.Goals as goal
 
 pub slice_bounds-ends-end : goal.slice_bounds-ends-end
-slice_bounds-ends-end c = omega (arith, c.requires.2, (checked c.args.s.now (image-reads c.requires.0)).layout.ringsMost)
+slice_bounds-ends-end c = omega (arith, c.requires.2, (checked c.args.s.now (image_reads c.requires.0)).layout.rings_most)
 
 pub slice_bounds-image_over-end-2 : goal.slice_bounds-image_over-end-2
-slice_bounds-image_over-end-2 c = sym (length-take-le _ _ (omega (arith, c.requires.2, (checked c.args.s.now (image-reads c.requires.0)).layout.ringsMost)))
+slice_bounds-image_over-end-2 c = sym (length-take-le _ _ (omega (arith, c.requires.2, (checked c.args.s.now (image_reads c.requires.0)).layout.rings_most)))
 
 pub image_over-requires : goal.image_over-requires
 image_over-requires c =
-    let rings-of : c.args.count ≤ 16 = omega (arith, c.requires.2, (checked c.args.s.now (image-reads c.requires.0)).layout.ringsMost) in
-    (c.requires.0, length-take-le _ _ c.requires.3 ∙ c.requires.1, length-take-le _ _ rings-of ∙ c.requires.2)
+    let rings_of_lem : c.args.count ≤ 16 = omega (arith, c.requires.2, (checked c.args.s.now (image_reads c.requires.0)).layout.rings_most) in
+    (c.requires.0, length-take-le _ _ c.requires.3 ∙ c.requires.1, length-take-le _ _ rings_of_lem ∙ c.requires.2)

@@ -2,24 +2,24 @@
 -- are written, 17 each.
 use native.Mathlib.Nat.{sub-zero}
 use native.Mathlib.Omega.{arith}
-use Rattle.points.proofs.InPlace.{none-written}
-use Rattle.points.proofs.BlockPoints.{ring-end, coedge-written, ring-read, ring-unread}
+use Rattle.points.proofs.InPlace.{none_written}
+use Rattle.points.proofs.BlockPoints.{ring_end, coedge_written, ring_read, ring_unread}
 use Rattle.points.proofs.ring.read.Goals as goal
 
 pub returns-then-points-count : goal.returns-then-points-count
-returns-then-points-count c = ring-unread c.args.block.now c.args.points.now (omega (arith, c.byte_at-count.ensures))
+returns-then-points-count c = ring_unread c.args.block.now c.args.points.now (omega (arith, c.byte_at-count.ensures))
 
 pub loop-k-init : goal.loop-k-init
-loop-k-init c = (omega arith, rw sub-zero (none-written _ _))
+loop-k-init c = (omega arith, rw sub-zero (none_written _ _))
 
 pub loop-k-preserved : goal.loop-k-preserved
 loop-k-preserved c =
     let i = c.loop-k in
     let a = c.args in
-    (omega arith, coedge-written a.block.now _ i.k _ i.invariant.1 (omega arith) (omega arith) c.read_coedge.ensures)
+    (omega arith, coedge_written a.block.now _ i.k _ i.invariant.1 (omega arith) (omega arith) c.read_coedge.ensures)
 
 pub returns : goal.returns
 returns c =
     let a = c.args in
     let i = c.loop-k in
-    ring-read a.block.now _ i.k i.invariant.1 (ring-end _ _ i.k (omega arith)) c.byte_at-count.ensures (omega arith) (omega arith)
+    ring_read a.block.now _ i.k i.invariant.1 (ring_end _ _ i.k (omega arith)) c.byte_at-count.ensures (omega arith) (omega arith)

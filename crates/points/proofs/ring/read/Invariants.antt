@@ -1,12 +1,12 @@
 use Prim.Native.Nat.{◌+◌, ◌*◌, ◌-◌, ◌≤◌}
 use lib.ListN.{drop}
-use Rattle.sheet.specs.Content.{ringPoints}
+use Rattle.sheet.specs.Content.{ring_points}
 use Rattle.sheet.specs.Layout.{coedges}
 use Rattle.points.proofs.InPlace.{Written}
 use Rattle.points.proofs.ring.read.Given as goal
 
 abbrev pub invariant-loop-k : goal.invariant-loop-k
-invariant-loop-k l = (l.k ≤ l.count) × Written l.initial.points l.points (17 * l.k) (ringPoints (coedges (l.count - l.k) (drop (1 + 280 * l.k) l.block))) (ringPoints (coedges l.count (drop 1 l.block)))
+invariant-loop-k l = (l.k ≤ l.count) × Written l.initial.points l.points (17 * l.k) (ring_points (coedges (l.count - l.k) (drop (1 + 280 * l.k) l.block))) (ring_points (coedges l.count (drop 1 l.block)))
 
 abbrev pub decreases-loop-k : goal.decreases-loop-k
 decreases-loop-k l = l.count - l.k

@@ -4,7 +4,7 @@ use mathlib.Core.Path.{◌≡◌, refl, sym, ◌∙◌}
 use Prim.Native.Nat.{◌+◌, ◌*◌, ◌≤◌, ◌<◌}
 use native.Mathlib.Omega.{arith}
 use lib.ListN.{length, length-set, length-take, length-drop}
-use Rattle.search.proofs.Renewing.{part-of, same-room, renewed, noted-up, ready-next, all-renewed}
+use Rattle.search.proofs.Renewing.{part_of_lem, same_room, renewed, noted_up, ready_next, all_renewed}
 use Rattle.search.proofs.copies.renew.Goals as goal
 
 pub loop-k-init : goal.loop-k-init
@@ -13,7 +13,7 @@ loop-k-init c = (omega arith, refl, refl, c.requires.4, λ j h. absurd (omega ar
 pub renew_one-requires : goal.renew_one-requires
 renew_one-requires c =
     let k = c.loop-k.k in
-    (c.requires.0, c.requires.1, simp (length-take, length-drop) (omega (arith, c.requires.2, c.loop-k.invariant.2)), λ m h t. c.loop-k.invariant.3 k (omega arith) m h t ∙ sym (part-of c.loop-k.copies k (omega (arith, c.requires.2, c.loop-k.invariant.2))))
+    (c.requires.0, c.requires.1, simp (length-take, length-drop) (omega (arith, c.requires.2, c.loop-k.invariant.2)), λ m h t. c.loop-k.invariant.3 k (omega arith) m h t ∙ sym (part_of_lem c.loop-k.copies k (omega (arith, c.requires.2, c.loop-k.invariant.2))))
 
 pub loop-k-preserved : goal.loop-k-preserved
 loop-k-preserved c =
@@ -25,13 +25,13 @@ loop-k-preserved c =
     let noted : k < length c.loop-k.until = omega (arith, c.requires.3, c.loop-k.invariant.1) in (
       omega arith,
       length-set c.loop-k.until k _ ∙ c.loop-k.invariant.1,
-      same-room c.loop-k.copies ys k new room ∙ c.loop-k.invariant.2,
+      same_room c.loop-k.copies ys k new room ∙ c.loop-k.invariant.2,
       renewed c.loop-k.copies ys k new room c.args.period c.args.i c.args.list.now c.loop-k.until r.result noted c.loop-k.invariant.3 r.ensures.1,
-      noted-up c.loop-k.copies ys k new room c.args.period c.args.i c.args.list.now c.loop-k.until r.result noted c.loop-k.invariant.3 r.ensures.1 r.ensures.0 c.loop-k.invariant.4,
+      noted_up c.loop-k.copies ys k new room c.args.period c.args.i c.args.list.now c.loop-k.until r.result noted c.loop-k.invariant.3 r.ensures.1 r.ensures.0 c.loop-k.invariant.4,
     )
 
 pub returns : goal.returns
 returns c =
     let l = c.loop-k in
     let same : length c.args.list.now ≡ length l.copies = c.requires.2 ∙ sym l.invariant.2 in
-    (all-renewed c.args.period c.args.i c.args.list.now l.until l.copies same l.invariant.3 (λ j h. l.invariant.4 j (omega arith)), ready-next c.args.period c.args.i c.args.list.now l.until l.copies same l.invariant.3)
+    (all_renewed c.args.period c.args.i c.args.list.now l.until l.copies same l.invariant.3 (λ j h. l.invariant.4 j (omega arith)), ready_next c.args.period c.args.i c.args.list.now l.until l.copies same l.invariant.3)

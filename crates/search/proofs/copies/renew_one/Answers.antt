@@ -1,13 +1,13 @@
 -- `search::copies::renew_one` leaves a copy that serves, or works it out and answers how far it serves.
 use mathlib.Core.Path.{sym, ◌∙◌}
 use Rattle.points.specs.Grid.{part}
-use Rattle.clearance.proofs.Laying.{put-all}
-use Rattle.search.proofs.Renewing.{copy-put}
-use Rattle.search.proofs.ServingCopies.{ends-are}
+use Rattle.clearance.proofs.Laying.{put_all}
+use Rattle.search.proofs.Renewing.{copy_put}
+use Rattle.search.proofs.ServingCopies.{ends_are}
 use Rattle.search.proofs.copies.renew_one.Goals as goal
 
 pub returns : goal.returns
 returns c =
     let x = c.args in
     let e = c.ends_at-ends in
-    (c.served.ensures.0, λ m h k. c.served.ensures.1 x.s.a_v x.s.b_v m h k ∙ sym (copy-put x.period (part x.i) x.s.a_u x.s.a_v x.s.b_u x.s.b_v e.result _ (ends-are x.period x.s.a_u x.s.b_u c.part.ensures e.result e.ensures) (c.put.ensures ∙ put-all _ _ c.requires.2)))
+    (c.served.ensures.0, λ m h k. c.served.ensures.1 x.s.a_v x.s.b_v m h k ∙ sym (copy_put x.period (part x.i) x.s.a_u x.s.a_v x.s.b_u x.s.b_v e.result _ (ends_are x.period x.s.a_u x.s.b_u c.part.ensures e.result e.ensures) (c.put.ensures ∙ put_all _ _ c.requires.2)))

@@ -9,12 +9,12 @@ use Prim.Native.Nat.{ℕ}
 use native.Mathlib.Omega.{arith}
 use lib.Ieee.{Float}
 use lib.ListN.{length, length-set}
-use Rattle.search.specs.Chosen.{coveredAt}
+use Rattle.search.specs.Chosen.{covered_at}
 use Rattle.search.specs.Leading.{Led}
 use Rattle.search.specs.Search.{visit}
 use Rattle.search.specs.declared.leader.Leader.{Leader}
-use Rattle.search.proofs.Led.{clearTo}
-use Rattle.search.proofs.Visits.{visit-covered, visit-passed, visit-count, column-start, column-step, column-end}
+use Rattle.search.proofs.Led.{clear_to}
+use Rattle.search.proofs.Visits.{visit_covered, visit_passed, visit_count, column_start, column_step, column_end}
 use Rattle.search.proofs.leader.column.Goals as goal
 use Rattle.search.proofs.leader.column.Goals.{then-is_covered, else-is_covered}
 
@@ -37,34 +37,34 @@ pub loop-j-preserved : goal.loop-j-preserved
 loop-j-preserved c =
     let x = c.args in
     let l = c.loop-j in
-    let f = coveredAt x.covered.now in
-    let g = clearTo x.list.now in
+    let f = covered_at x.covered.now in
+    let g = clear_to x.list.now in
     let v : Visited f g x.i l.j l.found c.if-is_covered.found c.if-is_covered.hints = elim c.if-is_covered.branch [
       | then-is_covered w ↦
           record {
             leads = rw w.found-is w.meet-found.ensures.0;
             room = rw w.hints-is (length-set l.hints l.j _ ∙ l.invariant.4);
-            is = ap (λ (n : Leader). n.best) w.found-is ∙ w.meet-found.ensures.1 ∙ sym (visit-covered f g x.i l.j l.found.best (sym c.is_covered.ensures ∙ w.if-is_covered.true));
+            is = ap (λ (n : Leader). n.best) w.found-is ∙ w.meet-found.ensures.1 ∙ sym (visit_covered f g x.i l.j l.found.best (sym c.is_covered.ensures ∙ w.if-is_covered.true));
           }
       | else-is_covered w ↦
           record {
             leads = rw w.found-is l.invariant.3;
             room = rw w.hints-is l.invariant.4;
-            is = ap (λ (n : Leader). n.best) w.found-is ∙ sym (visit-passed f g x.i l.j l.found.best (sym c.is_covered.ensures ∙ w.if-is_covered.false));
+            is = ap (λ (n : Leader). n.best) w.found-is ∙ sym (visit_passed f g x.i l.j l.found.best (sym c.is_covered.ensures ∙ w.if-is_covered.false));
           }
     ] in (
       omega arith,
       omega arith,
-      rw v.is (omega (arith, visit-count f g x.i l.j l.found.best)),
+      rw v.is (omega (arith, visit_count f g x.i l.j l.found.best)),
       v.leads,
       v.room,
-      rw v.is (sym (column-step f g x.i l.found.best l.j (omega arith)) ∙ l.invariant.5),
+      rw v.is (sym (column_step f g x.i l.found.best l.j (omega arith)) ∙ l.invariant.5),
     )
 
 pub returns : goal.returns
 returns c =
     let x = c.args in
     let l = c.loop-j in
-    let f = coveredAt x.covered.now in
-    let g = clearTo x.list.now in
-    (l.invariant.3, sym (column-end f g x.i l.found.best l.j c.loop-j-test.false) ∙ l.invariant.5 ∙ column-start f g x.i x.leader.best, omega arith)
+    let f = covered_at x.covered.now in
+    let g = clear_to x.list.now in
+    (l.invariant.3, sym (column_end f g x.i l.found.best l.j c.loop-j-test.false) ∙ l.invariant.5 ∙ column_start f g x.i x.leader.best, omega arith)

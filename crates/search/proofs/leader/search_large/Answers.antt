@@ -3,8 +3,8 @@
 use mathlib.Core.Path.{sym}
 use native.Mathlib.Omega.{arith}
 use lib.Seq.{length-take-le}
-use Rattle.search.proofs.Renewing.{none-serves}
+use Rattle.search.proofs.Renewing.{none_serves}
 use Rattle.search.proofs.leader.search_large.Goals as goal
 
 pub search_periodic-requires : goal.search_periodic-requires
-search_periodic-requires c = (sym (length-take-le _ _ c.requires), omega (arith, c.requires), λ k h m l t. absurd (none-serves 2176 k m l t))
+search_periodic-requires c = (sym (length-take-le _ _ c.requires), omega (arith, c.requires), λ k h m l t. absurd (none_serves 2176 k m l t))

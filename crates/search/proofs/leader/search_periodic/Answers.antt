@@ -8,22 +8,22 @@ use mathlib.Core.List.{List}
 use Prim.Native.Nat.{ℕ, ◌+◌}
 use native.Mathlib.Omega.{arith}
 use lib.Ieee.{inf}
-use Rattle.leaves.specs.Hypot.{hypotOfKey}
-use Rattle.points.specs.Grid.{gridPoint}
+use Rattle.leaves.specs.Hypot.{hypot_of_key}
+use Rattle.points.specs.Grid.{grid_point}
 use Rattle.points.specs.Segments.{Segment}
-use Rattle.search.specs.Chosen.{coveredAt}
-use Rattle.clearance.specs.Nearest.{leastKey}
+use Rattle.search.specs.Chosen.{covered_at}
+use Rattle.clearance.specs.Nearest.{least_key}
 use Rattle.search.specs.declared.candidate.Candidate.{Candidate}
-use Rattle.search.proofs.Led.{clearTo, clearIn}
-use Rattle.search.proofs.Visits.{searchFrom, search-start, search-step, search-end, column-same}
+use Rattle.search.proofs.Led.{clear_to, clear_in}
+use Rattle.search.proofs.Visits.{search_from, search_start, search_step, search_end, column_same}
 use Rattle.search.proofs.leader.search_periodic.Goals as goal
 
 pub loop-i-init : goal.loop-i-init
 loop-i-init c =
     let e = c.nobody-found.ensures.1 in
-    let f = coveredAt c.args.covered.now in
-    let g = clearIn c.args.period c.args.list.now in
-    (omega arith, omega arith, refl, c.nobody-found.ensures.0, omega (arith, ap (λ (b : Candidate). b.count) e), refl, refl, c.requires.2, ap (λ (b : Candidate). searchFrom f g b 1) e ∙ search-start f g)
+    let f = covered_at c.args.covered.now in
+    let g = clear_in c.args.period c.args.list.now in
+    (omega arith, omega arith, refl, c.nobody-found.ensures.0, omega (arith, ap (λ (b : Candidate). b.count) e), refl, refl, c.requires.2, ap (λ (b : Candidate). search_from f g b 1) e ∙ search_start f g)
 
 pub renew-requires : goal.renew-requires
 renew-requires c =
@@ -39,10 +39,10 @@ loop-i-preserved c =
     let x = c.args in
     let n = c.renew in
     let r = c.column-found in
-    let f = coveredAt x.covered.now in
-    let g = clearIn x.period x.list.now in
+    let f = covered_at x.covered.now in
+    let g = clear_in x.period x.list.now in
     let copies = n.new.copies in
-    let same : (j : ℕ) → clearTo copies l.i j ≡ g l.i j = λ j. ap (λ (ss : List Segment). hypotOfKey (leastKey (gridPoint l.i j) (inf false) ss)) n.ensures.0 in (
+    let same : (j : ℕ) → clear_to copies l.i j ≡ g l.i j = λ j. ap (λ (ss : List Segment). hypot_of_key (least_key (grid_point l.i j) (inf false) ss)) n.ensures.0 in (
       omega arith,
       omega (arith, c.loop-i-test.true),
       r.auto.hints ∙ l.invariant.2,
@@ -51,13 +51,13 @@ loop-i-preserved c =
       n.auto.until ∙ l.invariant.5,
       n.auto.copies ∙ l.invariant.6,
       n.ensures.1,
-      ap (λ (b : Candidate). searchFrom f g b (l.i + 1)) (r.ensures.1 ∙ column-same f (clearTo copies) g l.i same l.found.best) ∙ sym (search-step f g l.found.best l.i (omega (arith, c.loop-i-test.true))) ∙ l.invariant.8,
+      ap (λ (b : Candidate). search_from f g b (l.i + 1)) (r.ensures.1 ∙ column_same f (clear_to copies) g l.i same l.found.best) ∙ sym (search_step f g l.found.best l.i (omega (arith, c.loop-i-test.true))) ∙ l.invariant.8,
     )
 
 pub returns : goal.returns
 returns c =
     let l = c.loop-i in
     let x = c.args in
-    let f = coveredAt x.covered.now in
-    let g = clearIn x.period x.list.now in
-    sym (search-end f g l.found.best l.i c.loop-i-test.false) ∙ l.invariant.8
+    let f = covered_at x.covered.now in
+    let g = clear_in x.period x.list.now in
+    sym (search_end f g l.found.best l.i c.loop-i-test.false) ∙ l.invariant.8

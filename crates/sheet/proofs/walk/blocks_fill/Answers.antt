@@ -4,7 +4,7 @@
 use mathlib.Core.Path.{sym, ◌∙◌}
 use native.Mathlib.Nat.{sub-zero}
 use native.Mathlib.Omega.{arith}
-use Rattle.sheet.proofs.Walks.{fill-step, fill-short, fill-end}
+use Rattle.sheet.proofs.Walks.{fill_step, fill_short, fill_end}
 use borrow.Author.Rules.{rules}
 use Rattle.sheet.proofs.walk.blocks_fill.Goals as goal
 
@@ -18,7 +18,7 @@ pub returns-then-s-at : goal.returns-then-s-at
 returns-then-s-at c =
     let a = c.args in
     let short = rw c.block_size-size.ensures at c.if-s-at.true in
-    sym (fill-short a.s.now c.loop-k.at a.count c.loop-k.k c.loop-k-test.true short) ∙ c.loop-k.invariant.2
+    sym (fill_short a.s.now c.loop-k.at a.count c.loop-k.k c.loop-k-test.true short) ∙ c.loop-k.invariant.2
 
 pub loop-k-preserved : goal.loop-k-preserved
 loop-k-preserved c =
@@ -26,10 +26,10 @@ loop-k-preserved c =
     let room = rw c.block_size-size.ensures at c.if-s-at.false in (
       omega arith,
       omega arith,
-      rw c.block_size-size.ensures (sym (fill-step a.s.now c.loop-k.at a.count c.loop-k.k c.loop-k-test.true room) ∙ c.loop-k.invariant.2),
+      rw c.block_size-size.ensures (sym (fill_step a.s.now c.loop-k.at a.count c.loop-k.k c.loop-k-test.true room) ∙ c.loop-k.invariant.2),
     )
 
 pub returns : goal.returns
 returns c =
     let a = c.args in
-    sym (fill-end a.s.now c.loop-k.at a.count c.loop-k.k c.loop-k-test.false c.loop-k.invariant.0) ∙ c.loop-k.invariant.2
+    sym (fill_end a.s.now c.loop-k.at a.count c.loop-k.k c.loop-k-test.false c.loop-k.invariant.0) ∙ c.loop-k.invariant.2

@@ -1,7 +1,7 @@
--- `space::vectors::distance` is `distanceOf`: the leaves' hypotenuse of the three differences.
-use Rattle.space.specs.Vectors.{distanceOf}
+-- `space::vectors::distance` is `distance_of`: the leaves' hypotenuse of the three differences.
+use Rattle.space.specs.Vectors.{distance_of}
 use Rattle.space.proofs.vectors.distance.Goals as goal
 
 pub returns : goal.returns
-unfolding distanceOf
+unfolding distance_of
 returns c = c.hypot3.ensures

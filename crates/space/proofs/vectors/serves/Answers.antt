@@ -1,12 +1,12 @@
--- `space::vectors::serves` is `unitServes`: the two tests, one after the other.
-use Rattle.leaves.proofs.ConstantBits.{parallel-bits, infinity-bits}
-use Rattle.space.specs.Vectors.{unitServes}
+-- `space::vectors::serves` is `unit_serves`: the two tests, one after the other.
+use Rattle.leaves.proofs.ConstantBits.{parallel_bits, infinity_bits}
+use Rattle.space.specs.Vectors.{unit_serves}
 use Rattle.space.proofs.vectors.serves.Goals as goal
 
 pub returns-then-length : goal.returns-then-length
-unfolding unitServes
-returns-then-length c = rw (parallel-bits, c.if-length.true, infinity-bits)
+unfolding unit_serves
+returns-then-length c = rw (parallel_bits, c.if-length.true, infinity_bits)
 
 pub returns-else-length : goal.returns-else-length
-unfolding unitServes
-returns-else-length c = rw (parallel-bits, c.if-length.false)
+unfolding unit_serves
+returns-else-length c = rw (parallel_bits, c.if-length.false)

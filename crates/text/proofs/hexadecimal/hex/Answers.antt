@@ -5,14 +5,14 @@ use Prim.Native.Nat.{◌≤◌}
 use native.Mathlib.Omega.{arith}
 use lib.ListN.{length, length-set}
 use Rattle.text.specs.Digits.{digits}
-use Rattle.text.proofs.Fronts.{digit-more}
+use Rattle.text.proofs.Fronts.{digit_more}
 use Rattle.text.proofs.hexadecimal.hex.Goals as goal
 
 pub loop-i-preserved : goal.loop-i-preserved
 loop-i-preserved c =
     let j = c.loop-i in
     let l : j.i ≤ length j.text = omega arith in
-    (omega arith, simp length-set (omega arith), digit-more j.text _ j.i j.rest c.digit.result c.loop-i-test.true l j.invariant.2 c.digit.ensures)
+    (omega arith, simp length-set (omega arith), digit_more j.text _ j.i j.rest c.digit.result c.loop-i-test.true l j.invariant.2 c.digit.ensures)
 
 pub returns : goal.returns
 unfolding digits

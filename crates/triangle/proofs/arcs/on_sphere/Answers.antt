@@ -1,8 +1,8 @@
--- `triangle::arcs::on_sphere` is `onSphere`, operation by operation, as the paper has a position.
-use Rattle.answers.proofs.Papers.{paper-position, position-answers}
-use Rattle.triangle.specs.Triangle.{onSphere}
+-- `triangle::arcs::on_sphere` is `on_sphere`, operation by operation, as the paper has a position.
+use Rattle.answers.proofs.Papers.{paper_position, position_answers}
+use Rattle.triangle.specs.Triangle.{on_sphere}
 use Rattle.triangle.proofs.arcs.on_sphere.Goals as goal
 
 pub returns : goal.returns
-unfolding onSphere
-returns c = (paper-position _ _ _, position-answers _ _ _)
+unfolding on_sphere
+returns c = (paper_position _ _ _, position_answers _ _ _)

@@ -7,19 +7,19 @@ use mathlib.Core.Bool.{Bool, false}
 use mathlib.Core.List.{List}
 use lib.Ieee.{Float}
 use lib.ListN.{length}
-use Rattle.answers.proofs.Papers.{paper-no-position, refused-no-position}
-use Rattle.triangle.specs.Lists.{listsWrong}
-use Rattle.triangle.proofs.ListCases.{lists-wrong-is, lists-right-is, lists-right-length}
+use Rattle.answers.proofs.Papers.{paper_no_position, refused_no_position}
+use Rattle.triangle.specs.Lists.{lists_wrong}
+use Rattle.triangle.proofs.ListCases.{lists_wrong_is, lists_right_is, lists_right_length}
 use Rattle.triangle.proofs.lists.spherical_triangle_of.Goals as goal
 
 -- each side's nineteen numbers stand in the list
-long : (centre sides : List Float) {b : Bool} → b ≡ listsWrong centre sides → b ≡ false → length sides ≡ 57
-long centre sides is right = lists-right-length centre sides (sym is ∙ right)
+long : (centre sides : List Float) {b : Bool} → b ≡ lists_wrong centre sides → b ≡ false → length sides ≡ 57
+long centre sides is right = lists_right_length centre sides (sym is ∙ right)
 
 pub returns-then-lists_wrong : goal.returns-then-lists_wrong
 returns-then-lists_wrong c =
     let a = c.args in
-    (paper-no-position 16 ∙ sym (lists-wrong-is a.centre.now a.radius a.sense a.sides.now (sym c.lists_wrong.ensures ∙ c.if-lists_wrong.true)), refused-no-position 16 (λ z. omega (arith, z)))
+    (paper_no_position 16 ∙ sym (lists_wrong_is a.centre.now a.radius a.sense a.sides.now (sym c.lists_wrong.ensures ∙ c.if-lists_wrong.true)), refused_no_position 16 (λ z. omega (arith, z)))
 
 pub ends_at-requires : goal.ends_at-requires
 ends_at-requires c = omega (arith, long c.args.centre.now c.args.sides.now c.lists_wrong.ensures c.if-lists_wrong.false)
@@ -88,6 +88,6 @@ returns c =
         c.evaluated_at-2.ensures,
         c.evaluated_at-3.ensures,
       )
-          (sym (lists-right-is a.centre.now a.radius a.sense a.sides.now (sym c.lists_wrong.ensures ∙ c.if-lists_wrong.false))),
+          (sym (lists_right_is a.centre.now a.radius a.sense a.sides.now (sym c.lists_wrong.ensures ∙ c.if-lists_wrong.false))),
       c.spherical_triangle.ensures.1,
     )

@@ -4,27 +4,27 @@
 -- many places are left.
 use native.Mathlib.Omega.{arith}
 use Rattle.sheet.specs.Content.{pairs}
-use Rattle.vertex_fallback.specs.Vertices.{servesOf}
-use Rattle.vertex_fallback.proofs.Corners.{search-start, turn-found, turn-passed, last-found, none-found}
+use Rattle.vertex_fallback.specs.Vertices.{serves_of}
+use Rattle.vertex_fallback.proofs.Corners.{search_start, turn_found, turn_passed, last_found, none_found}
 use Rattle.vertex_fallback.proofs.vertices.first_serving.Goals as goal
 
 pub loop-k-init : goal.loop-k-init
 loop-k-init c =
     let a = c.args in
-    search-start (servesOf a.u a.v (pairs a.ring.now)) a.corners.now (omega arith) c.place_at-start.ensures c.place_at-before.ensures
+    search_start (serves_of a.u a.v (pairs a.ring.now)) a.corners.now (omega arith) c.place_at-start.ensures c.place_at-before.ensures
 
 pub returns-then-serves : goal.returns-then-serves
 returns-then-serves c =
-    turn-found c.loop-k.invariant (omega arith) c.place_at-after.ensures c.serves.ensures c.if-serves.true c.centre.ensures c.position.ensures
+    turn_found c.loop-k.invariant (omega arith) c.place_at-after.ensures c.serves.ensures c.if-serves.true c.centre.ensures c.position.ensures
 
 pub loop-k-preserved : goal.loop-k-preserved
 loop-k-preserved c =
-    turn-passed c.loop-k.invariant (omega arith) c.place_at-after.ensures c.serves.ensures c.if-serves.false
+    turn_passed c.loop-k.invariant (omega arith) c.place_at-after.ensures c.serves.ensures c.if-serves.false
 
 pub returns-then-serves-2 : goal.returns-then-serves-2
 returns-then-serves-2 c =
-    last-found c.loop-k.invariant c.loop-k-test.false c.serves-2.ensures c.if-serves-2.true c.centre-then-serves-2.ensures c.position-then-serves-2.ensures
+    last_found c.loop-k.invariant c.loop-k-test.false c.serves-2.ensures c.if-serves-2.true c.centre-then-serves-2.ensures c.position-then-serves-2.ensures
 
 pub returns : goal.returns
 returns c =
-    none-found c.loop-k.invariant c.loop-k-test.false c.serves-2.ensures c.if-serves-2.false
+    none_found c.loop-k.invariant c.loop-k-test.false c.serves-2.ensures c.if-serves-2.false

@@ -7,29 +7,29 @@ use Prim.Native.Nat.{◌*◌, ◌+◌}
 use native.Mathlib.Omega.{arith}
 use lib.ListN.{drop}
 use Rattle.space.specs.Places.{triples}
-use Rattle.space.specs.Vectors.{dotOf}
+use Rattle.space.specs.Vectors.{dot_of}
 use Rattle.space.specs.declared.vectors.Place.{Place}
-use Rattle.space.proofs.Triples.{triples-step, triples-end}
+use Rattle.space.proofs.Triples.{triples_step, triples_end}
 use Rattle.sheet.specs.Content.{point}
-use Rattle.points.proofs.InPlace.{none-written, point-written, all-filled}
+use Rattle.points.proofs.InPlace.{none_written, point_written, all_filled}
 use Rattle.vertex_fallback.specs.Vertices.{flattened}
 use Rattle.vertex_fallback.proofs.vertices.flatten.Goals as goal
 
 pub loop-k-init : goal.loop-k-init
-loop-k-init c = (omega arith, none-written _ _)
+loop-k-init c = (omega arith, none_written _ _)
 
 pub loop-k-preserved : goal.loop-k-preserved
 unfolding flattened
 loop-k-preserved c =
     let a = c.args in
     let here = c.place_at-p.ensures in
-    let x = c.dot.ensures ∙ ap (λ (p : Place). dotOf p a.u) here in
-    let y = c.dot-in-loop-k.ensures ∙ ap (λ (p : Place). dotOf p a.v) here in
+    let x = c.dot.ensures ∙ ap (λ (p : Place). dot_of p a.u) here in
+    let y = c.dot-in-loop-k.ensures ∙ ap (λ (p : Place). dot_of p a.v) here in
     let left = map (flattened a.u a.v) (triples (drop (3 * (c.loop-k.k + 1)) a.corners.now)) in
-    let e = ap (map (flattened a.u a.v)) (triples-step a.corners.now c.loop-k.k (omega arith)) ∙ (λ i. point (sym x i) (sym y i) ∷ left) in
-    (omega arith, point-written c.loop-k.invariant.1 c.dot.result c.dot-in-loop-k.result left e (omega arith))
+    let e = ap (map (flattened a.u a.v)) (triples_step a.corners.now c.loop-k.k (omega arith)) ∙ (λ i. point (sym x i) (sym y i) ∷ left) in
+    (omega arith, point_written c.loop-k.invariant.1 c.dot.result c.dot-in-loop-k.result left e (omega arith))
 
 pub returns : goal.returns
 returns c =
     let a = c.args in
-    all-filled c.loop-k.invariant.1 (ap (map (flattened a.u a.v)) (triples-end a.corners.now c.loop-k.k (omega arith))) (omega arith)
+    all_filled c.loop-k.invariant.1 (ap (map (flattened a.u a.v)) (triples_end a.corners.now c.loop-k.k (omega arith))) (omega arith)
