@@ -1,7 +1,6 @@
 -- "Root: IEEE 754 square root, nearest, ties to even." For every finite value above zero no value of the format is
--- nearer to the exact root than `root_in` gives (`root_nearest`),
--- and a value with that property is what `root_in` gives (`root_only`): so there is never a tie. A value whose square is
--- x exactly is the root of x (`root_exact`).
+-- nearer to the exact root than `root_in` gives (`root_nearest`), and a value with that property is what `root_in`
+-- gives (`root_only`): so there is never a tie. A value whose square is x exactly is the root of x (`root_exact`).
 -- X is x in units of the smallest value, n = X * 2 ^ (low + 2) the number whose whole root r is taken, in half units,
 -- and G the root in units. Assumes nothing.
 use Rattle.std.proofs.Common.{◌≡◌, ℕ, zero, suc, ◌+◌, ◌-◌, ◌*◌, ◌/◌, ◌%◌, ◌^◌, ◌<◌, ◌≤◌, Bool, true, false, not, T, ltb, ℤ, pos, sym, refl, ap, ◌∙◌, subst, inl, inr, true≢false, suc-le-suc, zero-le, le_trans, le_of_eq, le_refl, lt_of_lt_of_le, le_of_suc-le-suc, le-add_right, lt_of_le_of_lt, le_of_lt, add-le-add, lt_irrefl, zero-lt-suc, mul_assoc, mul_comm, add_comm, le_antisymm, eq-or-lt_of_le, mul-le-mul_left, mul-lt-mul_of_pos_right, mul-pos, pow-suc, lt_of_not-le, zero-add, mul-one, mul_right_comm, not-le_of_lt, le_of_mul-le-mul_right, sub-le, arith, lit≤, ltb→lt, nltb→le, pow_pos, pow_mono, pow-add}

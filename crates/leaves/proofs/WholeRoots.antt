@@ -1,5 +1,5 @@
--- The whole part of a root: `whole_root n` is the one r with r * r ≤ n < (r + 1) * (r + 1). It grows with n, and so does
--- the fraction that `rounded` hands on.
+-- The whole part of a root: `whole_root n` is the one r with r * r ≤ n < (r + 1) * (r + 1). It grows with n, and so
+-- does the fraction that `rounded` hands on.
 -- Assumes nothing.
 use Rattle.std.proofs.Common.{◌≡◌, ℕ, zero, suc, ◌+◌, ◌*◌, ◌/◌, ◌^◌, ◌<◌, ◌≤◌, Bool, true, false, cond, not, T, eqb, leb, ◌⊎◌, refl, ap, ◌∙◌, subst, inl, inr, lt_of_lt_of_le, lt_of_le_of_lt, lt_irrefl, zero-lt-suc, div-lt_iff_lt-mul, le_antisymm, eq-or-lt_of_le, pow-suc, arith, eqb→eq, leb→le}
 use lib.Dec.{nleb→lt, eqb_refl}

@@ -1,5 +1,5 @@
--- `round_fallback::cylinder::middle_over` answers `middle_among` of the corner angles: `sort` puts the reduced angles in
--- order, `keep` picks the corner angles, and `middle` answers of these.
+-- `round_fallback::cylinder::middle_over` answers `middle_among` of the corner angles: `sort` puts the reduced angles
+-- in order, `keep` picks the corner angles, and `middle` answers of these.
 use mathlib.Core.Path.{ap, ◌∙◌}
 use Rattle.round_fallback.specs.Cylinder.{kept_of, corner_angles, middle_among}
 use Rattle.round_fallback.proofs.cylinder.middle_over.Goals as goal
