@@ -6,6 +6,8 @@
 mod column_turns;
 mod covering;
 mod marks;
+mod ring_grid;
 mod winding;
 
 pub use covering::cover;
+pub use ring_grid::{clear, crossing_grid};

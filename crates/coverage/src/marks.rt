@@ -51,7 +51,7 @@ pub(crate) fn mark_windings(band: bool, sense: u8, sums: &[i64], covered: &mut [
 
 // The place, where a row's points stand side by side, of the grid point after the one in place `at`: a
 // row further, and after the last row in the first one again, a point further.
-fn next_row(at: usize) -> usize
+pub(crate) fn next_row(at: usize) -> usize
     requires { at < 961 }
     ensures { (k : ℕ) → k < 961 → at ≡ in_rows k → result ≡ in_rows (k + 1) }
 {
