@@ -58,7 +58,7 @@ fn chosen_over(
     requires { Packed ends.now points.now × (length points.now ≡ length normal.old) × (2 * length points.now ≤ length list.old) × (length points.now ≤ 4352) × (length ends.now ≤ 256) }
     ensures { result ≡ candidate f sense (normalised_by f (rings_from 0 ends.now points.now)) }
 {
-    points::normalise(f.least_u, f.least_v, f.scale_u, f.scale_v, points, normal);
+    points::normalise_into(f.least_u, f.least_v, f.scale_u, f.scale_v, points, normal);
     chosen_from(f, sense, normal, ends, list)
 }
 

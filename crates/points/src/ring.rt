@@ -1,4 +1,5 @@
-// A ring's points: read from the block, moved in place (rules 1 and 2), normalised into another list (rule 5).
+// A ring's points: read from the block, moved in place (rules 1 and 2), normalised in place or into another list
+// (rule 5).
 ghost use Rattle.std.specs.Prelude.{◌≡◌, map, ◌+◌, ◌*◌, ◌≤◌, length, drop};
 ghost use Rattle.sheet.specs.Content.{point, ring_points, flat, pairs, on_points};
 ghost use Rattle.answers.specs.Lists.{over};
@@ -106,9 +107,25 @@ pub fn unroll(kind: u8, phase: u32, points: &mut [f64])
     }
 }
 
+// Rule 5, in place: (coordinate - least) / scale.
+pub fn normalise(least_u: f64, least_v: f64, scale_u: f64, scale_v: f64, points: &mut [f64])
+    ensures { points.new ≡ on_points (map (normal least_u least_v scale_u scale_v)) points.old }
+{
+    let count = points.len() / 2;
+    let mut k = 0;
+    while k < count {
+        let at = 2 * k;
+        let u = points[at];
+        let v = points[at + 1];
+        points[at] = (u - least_u) / scale_u;
+        points[at + 1] = (v - least_v) / scale_v;
+        k += 1;
+    }
+}
+
 // Rule 5: (coordinate - least) / scale of each point, over the front of `out`, whose tail keeps its contents; a list
 // that is too short for them stays as it is.
-pub fn normalise(
+pub fn normalise_into(
     least_u: f64,
     least_v: f64,
     scale_u: f64,

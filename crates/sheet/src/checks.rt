@@ -10,6 +10,9 @@ use crate::walk::{COORDINATE_LIMIT, any_beyond, blocks_fill, coedges_wrong, ring
 // 2, for a component of the u axis or the normal.
 const AXIS_LIMIT: f64 = 2.0;
 
+// The greatest kind.
+const MOST_KIND: u8 = 6;
+
 // 1: under 8 bytes, or a length field that is not the number of bytes after it.
 fn length_wrong(s: &[u8]) -> bool
     ensures { result ≡ length_wrong s.now }
@@ -32,7 +35,7 @@ fn version_wrong(s: &[u8]) -> bool
 fn kind_wrong(s: &[u8]) -> bool
     ensures { result ≡ kind_wrong s.now }
 {
-    if 6 < byte_at(s, 5) {
+    if MOST_KIND < byte_at(s, 5) {
         true
     } else {
         2 < byte_at(s, 6)
