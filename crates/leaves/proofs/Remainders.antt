@@ -1,11 +1,11 @@
 -- The remainder by TAU, worked out by whole numbers. TAU is 7074237752028440 / 2 ^ 50, and so is every value from TAU
 -- on a whole number of 2 ^ -50ths; the remainder of the two numbers is the remainder's, and a value of the format, so
 -- nothing is rounded. A smaller value that is not negative is its own remainder, and a negative one's has its sign.
-use Rattle.std.proofs.Common.{◌≡◌, ℕ, suc, ◌+◌, ◌-◌, ◌*◌, ◌/◌, ◌%◌, ◌^◌, ◌<◌, ◌≤◌, Bool, true, false, not, T, ℤ, pos, negsuc, refl, sym, ap, ◌∙◌, subst, lt_of_lt_of_le, le_trans, mul_assoc, mul_comm, mul_right_comm, mul-pos, mul-lt-mul_of_pos_right, mul-le-mul_right, mul-le-mul_left, lt_of_mul-lt-mul_right, mod-lt, mod-eq_of_lt, arith, lt→ltb, ltb→lt, nltb→le, lit<, lit≤, pow_pos, pow_mono, pow-add}
+use Rattle.std.proofs.Common.{◌≡◌, ℕ, suc, ◌+◌, ◌-◌, ◌*◌, ◌/◌, ◌%◌, ◌^◌, ◌<◌, ◌≤◌, Bool, true, false, not, T, ℤ, pos, negsuc, refl, sym, ap, ◌∙◌, subst, lt_of_lt_of_le, le_trans, mul_assoc, mul-pos, mul-lt-mul_of_pos_right, mul-le-mul_right, mul-le-mul_left, lt_of_mul-lt-mul_right, mod-lt, mod-eq_of_lt, arith, lt→ltb, ltb→lt, nltb→le, lit<, lit≤, pow_pos, pow_mono, pow-add}
 use native.Mathlib.Nat.{div-add-mod, mul-add-mod_self_left, eq_of_mul-eq-mul_right, le_of_mul-le-mul_right}
 use lib.Arith.{le→nltb}
 use lib.Pow.{shl_lt}
-use lib.Ieee.{Float, nan, inf, fin, Format, binary64, prec, emax, low, up, down, round, neg, div, rem, lt, le, of_int, fits, of_bits, to_bits}
+use lib.Ieee.{Float, nan, inf, fin, Format, binary64, emax, low, up, down, round, neg, div, rem, lt, le, of_int, fits, of_bits, to_bits}
 use lib.Ieee.Exact.{HasValue, round_exact}
 use lib.Ieee.Fits.{down_pos, rem-fits}
 use lib.Ieee.Scale.{round_same}

@@ -20,9 +20,11 @@ pub fn larger_of(a: f64, b: f64) -> f64
 pub fn clamp(x: f64, low: f64, high: f64) -> f64
     ensures { result ≡ clamp_of x low high }
 {
-    if x < low {
+    let is_below = x < low;
+    let is_above = high < x;
+    if is_below {
         low
-    } else if high < x {
+    } else if is_above {
         high
     } else {
         x

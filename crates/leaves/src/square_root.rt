@@ -69,7 +69,8 @@ fn root_of_scaled(significand: u64, exponent: u64) -> f64
     requires exponent_small { exponent < 3068 }
     ensures { RootOfFraction result (significand * 2 ^ exponent) 2096 }
 {
-    if exponent % 2 == 0 {
+    let is_even = exponent % 2 == 0;
+    if is_even {
         root_of_even(significand, exponent / 2)
     } else {
         root_of_even(significand * 2, exponent / 2)

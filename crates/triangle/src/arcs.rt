@@ -77,7 +77,8 @@ fn is_outside(sign: f64, p: Place, a: Arc) -> bool
 fn no_interior(sense: u32, p: Place, a: Arc, b: Arc, c: Arc) -> bool
     ensures { result ≡ no_interior sense p a b c }
 {
-    if sense == 0 {
+    let is_absent = sense == 0;
+    if is_absent {
         return true;
     }
     let sign = if sense == 1 { 1.0 } else { -1.0 };

@@ -2,14 +2,14 @@
 use Rattle.leaves.specs.Bounds.{clamp_of}
 use Rattle.leaves.proofs.bounds.clamp.Goals as goal
 
-pub returns-then-x-low : goal.returns-then-x-low
+pub returns-then-is_below : goal.returns-then-is_below
 unfolding clamp_of
-returns-then-x-low c = rw c.if-x-low.true
+returns-then-is_below c = rw c.if-is_below.true
 
-pub returns-then-high-x : goal.returns-then-high-x
+pub returns-then-is_above : goal.returns-then-is_above
 unfolding clamp_of
-returns-then-high-x c = rw (c.if-x-low.false, c.if-high-x.true)
+returns-then-is_above c = rw (c.if-is_below.false, c.if-is_above.true)
 
-pub returns-else-high-x : goal.returns-else-high-x
+pub returns-else-is_above : goal.returns-else-is_above
 unfolding clamp_of
-returns-else-high-x c = rw (c.if-x-low.false, c.if-high-x.false)
+returns-else-is_above c = rw (c.if-is_below.false, c.if-is_above.false)

@@ -1,5 +1,5 @@
 -- `leaves::remainder::parts_left` doubles a remainder and reduces it, which is the remainder of the double.
-use Rattle.std.proofs.Common.{◌≡◌, ℕ, ◌*◌, ◌%◌, ◌^◌, ◌+◌, ◌<◌, ap, ◌∙◌, subst, sym, mod-lt, mul_assoc, arith, add-one, pow-suc, lit<}
+use Rattle.std.proofs.Common.{◌≡◌, ℕ, ◌*◌, ◌%◌, ◌^◌, ◌+◌, ◌<◌, ap, ◌∙◌, sym, mod-lt, mul_assoc, arith, add-one, pow-suc, lit<}
 use Rattle.leaves.proofs.Remainders.{mod_doubled}
 use Rattle.leaves.proofs.remainder.parts_left.Goals as goal
 

@@ -1,5 +1,5 @@
 -- `leaves::remainder::rest_from_tau`: the bits give the value in 2 ^ -50ths; what is left of these is the remainder.
-use Rattle.std.proofs.Common.{◌≡◌, ℕ, ◌+◌, ◌-◌, ◌*◌, ◌/◌, ◌%◌, ◌^◌, ◌<◌, ◌≤◌, T, true, sym, ap, ◌∙◌, subst, le→leb, mod-lt, lt_of_lt_of_le, arith, lit<, lit≤}
+use Rattle.std.proofs.Common.{◌≡◌, ℕ, ◌/◌, ◌%◌, ◌^◌, ◌<◌, T, true, sym, ◌∙◌, subst, le→leb, mod-lt, lt_of_lt_of_le, arith, lit<, lit≤}
 use lib.Ieee.{Float, binary64, to_bits, fits, le, in_float, of_bits, div}
 use lib.IntN.{pos}
 use Rattle.leaves.specs.Constants.{tau}

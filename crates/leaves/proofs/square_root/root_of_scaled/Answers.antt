@@ -10,8 +10,8 @@ odd s e h = mul_assoc s 2 (2 ^ (2 * (e / 2))) ∙ ap (λ (z : ℕ). s * z) (sym 
     whole : (e : ℕ) → (e % 2 ≡ 0 → ⊥) → suc (2 * (e / 2)) ≡ e
     whole e h = omega arith
 
-pub returns-else-exponent-eq0 : goal.returns-else-exponent-eq0
-returns-else-exponent-eq0 c =
+pub returns-else-is_even : goal.returns-else-is_even
+returns-else-is_even c =
     let s = c.args.significand in
     let e = c.args.exponent in
-    at_fraction c.root_of_even-else-exponent-eq0.result (s * 2 * 2 ^ (2 * (e / 2))) (s * 2 ^ e) 2096 (odd s e c.if-exponent-eq0.false) c.root_of_even-else-exponent-eq0.ensures
+    at_fraction c.root_of_even-else-is_even.result (s * 2 * 2 ^ (2 * (e / 2))) (s * 2 ^ e) 2096 (odd s e c.if-is_even.false) c.root_of_even-else-is_even.ensures

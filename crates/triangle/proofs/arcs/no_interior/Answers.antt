@@ -17,24 +17,24 @@ backward : (sense : ℕ) {sign : Float} → (sense ≡ 1 → ⊥) → sign ≡ n
 unfolding sign_of
 backward sense e is = rw (ne_eqb sense 1 e) is
 
-pub returns-then-sense-eq0 : goal.returns-then-sense-eq0
+pub returns-then-is_absent : goal.returns-then-is_absent
 unfolding no_interior
-returns-then-sense-eq0 c = rw (eq-eqb c.args.sense 0 c.if-sense-eq0.true)
+returns-then-is_absent c = rw (eq-eqb c.args.sense 0 c.if-is_absent.true)
 
 pub returns-then-is_outside : goal.returns-then-is_outside
 unfolding no_interior
 returns-then-is_outside c =
     let sign : c.if-sense-eq1.sign ≡ sign_of c.args.sense = elim c.if-sense-eq1.branch [ then-sense-eq1 w ↦ forward c.args.sense w.if-sense-eq1.true w.sign-is | else-sense-eq1 w ↦ backward c.args.sense w.if-sense-eq1.false w.sign-is ] in
-    rw (ne_eqb c.args.sense 0 c.if-sense-eq0.false, ← sign, ← c.is_outside.ensures, c.if-is_outside.true)
+    rw (ne_eqb c.args.sense 0 c.if-is_absent.false, ← sign, ← c.is_outside.ensures, c.if-is_outside.true)
 
 pub returns-then-is_outside-2 : goal.returns-then-is_outside-2
 unfolding no_interior
 returns-then-is_outside-2 c =
     let sign : c.if-sense-eq1.sign ≡ sign_of c.args.sense = elim c.if-sense-eq1.branch [ then-sense-eq1 w ↦ forward c.args.sense w.if-sense-eq1.true w.sign-is | else-sense-eq1 w ↦ backward c.args.sense w.if-sense-eq1.false w.sign-is ] in
-    rw (ne_eqb c.args.sense 0 c.if-sense-eq0.false, ← sign, ← c.is_outside.ensures, c.if-is_outside.false, ← c.is_outside-else-is_outside.ensures, c.if-is_outside-2.true)
+    rw (ne_eqb c.args.sense 0 c.if-is_absent.false, ← sign, ← c.is_outside.ensures, c.if-is_outside.false, ← c.is_outside-else-is_outside.ensures, c.if-is_outside-2.true)
 
 pub returns-else-is_outside-2 : goal.returns-else-is_outside-2
 unfolding no_interior
 returns-else-is_outside-2 c =
     let sign : c.if-sense-eq1.sign ≡ sign_of c.args.sense = elim c.if-sense-eq1.branch [ then-sense-eq1 w ↦ forward c.args.sense w.if-sense-eq1.true w.sign-is | else-sense-eq1 w ↦ backward c.args.sense w.if-sense-eq1.false w.sign-is ] in
-    rw (ne_eqb c.args.sense 0 c.if-sense-eq0.false, ← sign, ← c.is_outside.ensures, c.if-is_outside.false, ← c.is_outside-else-is_outside.ensures, c.if-is_outside-2.false, c.is_outside-else-is_outside-2.ensures)
+    rw (ne_eqb c.args.sense 0 c.if-is_absent.false, ← sign, ← c.is_outside.ensures, c.if-is_outside.false, ← c.is_outside-else-is_outside.ensures, c.if-is_outside-2.false, c.is_outside-else-is_outside-2.ensures)
