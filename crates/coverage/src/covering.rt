@@ -94,7 +94,8 @@ fn cover_grid(f: Frame, sense: u8, points: &[f64], ends: &[usize], covered: &mut
     requires { (length points.now ≤ 4352) × (length ends.now ≤ 256) × (length covered.old ≡ 961) }
     ensures { covered.new ≡ grid_of (λ (i j : ℕ). covered_of f sense (rings_from 0 ends.now points.now) (grid_point i j)) }
 {
-    if f.periodic {
+    let periodic = f.periodic;
+    if periodic {
         cover_by_winding(f, sense, points, ends, covered);
     } else {
         cover_by_inside(f, sense, points, ends, covered);
