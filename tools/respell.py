@@ -4,7 +4,7 @@
 usage: python3 tools/respell.py [--check] [FOLDER]     FOLDER is the top of a checkout, after the kit's port.py; default '.'
 
 A name that specs/ or proofs/ declare, or that a proof binds, gets underscores: coedgeSize and coedge-size become
-coedge_size. A type, a module and a name that begins with a capital stay; so do the kit's names, the names that the kit
+coedge_size. A type, a module and a fact keep their capitals; the kit's names stay, the names that the kit
 makes of the source (goals, steps, joins: what stands behind 'goal.', 'c.' and the like), and every name of src/ that is
 not a definition's. Where a lemma and a definition would get one name, the lemma gets '_lem' behind it, and a few pairs
 of names have a row of their own in OTHER. What turns: the code of .antt and .rt files, their comments, must-fail edits,
@@ -19,7 +19,7 @@ import sys
 WORD = re.compile(r'[^\s(){}.;,@"«»]+')
 RUST = re.compile(r"[A-Za-z_][\w']*(?:-[A-Za-z_0-9][\w']*)*")
 CAMEL = re.compile(r"(?=.*[a-z0-9][A-Z])[a-z][\w'-]*")
-DASHED = re.compile(r"[^\W\d_][\w']*(?:-[\w']+)+")
+DASHED = re.compile(r"[^\W\d_][\w'→]*(?:-[\w'→]+)+")
 MODIFIERS = r"(?:(?:abbrev|opaque|unfoldable|pub|instance)\s+)*"
 COMMENT = re.compile(r"--[^\n]*|\{-.*?-\}", re.S)
 # Names that the kit makes begin so, or end so.
@@ -41,6 +41,12 @@ OTHER = {
     "own-value": "fits_own_value",
     "round-mono": "round_in_mono",
     "to-z": "to_z_end",
+}
+# Lemmas of these files whose name a lemma of the kit has too, which they use under another or not at all.
+HERE = {
+    "crates/leaves/proofs/PackedRoots.antt": {"rounded-fits": "rounded_fits"},
+    "crates/leaves/proofs/Roots.antt": {"rounded-fits": "rounded_fits"},
+    "crates/leaves/proofs/Wholes.antt": {"round-fits": "round_in_fits"},
 }
 # Words of the pages and comments that are spelled like a lemma.
 PLAIN = set()
@@ -120,7 +126,7 @@ def names(root):
             used[m[1]] += 1
     table, taken = {}, collections.defaultdict(set)
     for name in set(own) | set(used):
-        if name in kit or name in goals or name[0].isupper() or snake(name) == name:
+        if name in kit or name in goals or snake(name) == name or name[0].isupper() and not ("-" in name and name in own):
             continue
         if not (CAMEL.fullmatch(name) or DASHED.fullmatch(name)):
             continue
@@ -218,6 +224,15 @@ def main(argv):
             print(old, new, " ".join(sorted(own.get(old, ()))), sep="\t")
         return 0
     changed = 0
+    for path, rows in HERE.items():
+        path = os.path.join(root, path)
+        if os.path.isfile(path):
+            lines = read(path).split("\n")
+            new = "\n".join(line if line.startswith("use lib.") else antt(line, rows) for line in lines)
+            if new != "\n".join(lines):
+                with open(path, "w", encoding="utf-8") as f:
+                    f.write(new)
+                changed += 1
     for turn, paths in (
         (antt, files(root, (".antt",))),
         (rust, files(root, (".rt",))),

@@ -29,7 +29,7 @@ use Rattle.vertex_fallback.proofs.Refusals.{point_on_refused, point_on_status}
 use Rattle.round_fallback.proofs.Refusals.{cylinder_refused, cylinder_status}
 use Rattle.triangle.specs.Lists.{triangle_lists_of}
 use Rattle.triangle.proofs.ListRefusals.{triangle_lists_refused, triangle_lists_status}
-use Rattle.capi.specs.Convention.{seen, seen_of, chart_seen}
+use Rattle.capi.specs.Convention.{seen, seen_of, chart_seen, image_pick_returned, plane_pick_returned}
 use Rattle.capi.specs.Demand.{Demand1}
 use Rattle.answers.specs.Returned.{returned, zeros}
 use Rattle.answers.proofs.Returning.{other_length, status_is, zeros_beside}
@@ -78,6 +78,38 @@ image_pick_demand_1 sheet phase images = demand_1 (image_pick_of sheet phase ima
 
 pub plane_pick_demand_1 : (sheet : List ℕ) → Demand1 (plane_pick_of sheet) plane_statuses
 plane_pick_demand_1 sheet = demand_1 (plane_pick_of sheet) plane_statuses (plane_pick_refused sheet) (plane_pick_status_one sheet)
+
+-- the same of what the picks return, sentence by sentence
+
+module _ (sheet : List ℕ) (phase : ℕ) (images result : List Float) where
+  pub image_pick_call_other_length : (length result ≡ 5 → ⊥) → image_pick_returned sheet phase images result ≡ returned 1 result
+  unfolding image_pick_returned
+  image_pick_call_other_length h = (image_pick_demand_1 sheet phase images).unwritten result h
+
+  module _ (h : length result ≡ 5) where
+    pub image_pick_call_refused : ((image_pick_returned sheet phase images result).status ≡ 0 → ⊥) → (image_pick_returned sheet phase images result).result ≡ zeros
+    unfolding image_pick_returned
+    image_pick_call_refused n = (image_pick_demand_1 sheet phase images).zeroed result h n
+
+    pub image_pick_call_status : OneOf image_statuses (image_pick_returned sheet phase images result).status
+    unfolding image_pick_returned
+    image_pick_call_status = (image_pick_demand_1 sheet phase images).numbered result h
+
+module _ (sheet : List ℕ) (result : List Float) where
+  pub plane_pick_call_other_length : (length result ≡ 5 → ⊥) → plane_pick_returned sheet result ≡ returned 1 result
+  unfolding plane_pick_returned
+  plane_pick_call_other_length h = (plane_pick_demand_1 sheet).unwritten result h
+
+  module _ (h : length result ≡ 5) where
+    pub plane_pick_call_refused : ((plane_pick_returned sheet result).status ≡ 0 → ⊥) → (plane_pick_returned sheet result).result ≡ zeros
+    unfolding plane_pick_returned
+    plane_pick_call_refused n = (plane_pick_demand_1 sheet).zeroed result h n
+
+    pub plane_pick_call_status : OneOf plane_statuses (plane_pick_returned sheet result).status
+    unfolding plane_pick_returned
+    plane_pick_call_status = (plane_pick_demand_1 sheet).numbered result h
+
+-- ---- the calls after the picker
 
 pub sample_parameter_demand_1 : (a b : Float) (n : ℕ) → Demand1 (sample_parameter_of a b n) (0 ∷ 16 ∷ [])
 sample_parameter_demand_1 a b n = demand_1 (sample_parameter_of a b n) (0 ∷ 16 ∷ []) (sample_parameter_refused a b n) (sample_parameter_status a b n)

@@ -14,7 +14,7 @@ use lib.Dec.{T, not_T, T_not}
 use lib.Ieee.{Float, binary64, of_bits, fits, is_nan, lt, le}
 use Rattle.leaves.specs.Constants.{plus_zero, clearance_limit}
 use Rattle.leaves.proofs.ConstantBits.{clearance_limit_fits, clearance_limit_positive}
-use Rattle.leaves.proofs.Order.{le_self, le→not-lt, le_lt_trans, lt_le_trans, lt→le, float_lt_irrefl, not-lt→le}
+use Rattle.leaves.proofs.Order.{le_self, le→not_lt, le_lt_trans, lt_le_trans, lt→le, float_lt_irrefl, not_lt→le}
 use Rattle.points.specs.Grid.{up_from, lines, part, grid_of}
 use Rattle.search.specs.Search.{start, better, counted, visit, column, search}
 use Rattle.chart.specs.Demand.{OnGrid, After, trues, covered_count, NoneServes, Clearest, candidate_at}
@@ -71,9 +71,9 @@ ordered i j k l = by (dec_lt k i) (dec_lt i k) (dec_lt l j) (dec_lt j l)
 true_T : {b : Bool} → b ≡ true → T b
 true_T e = subst T (sym e) tt
 
-T-false : (b : Bool) → T (not b) → b ≡ false
-T-false true t = absurd t
-T-false false t = refl
+T_false : (b : Bool) → T (not b) → b ≡ false
+T_false true t = absurd t
+T_false false t = refl
 
 false_T : {b : Bool} → b ≡ false → T (not b)
 false_T e = subst (λ (x : Bool). T (not x)) (sym e) tt
@@ -175,7 +175,7 @@ module _ (cover : ℕ → ℕ → Bool) (clear : ℕ → ℕ → Float) where
         record {
           held = r.held;
           number = r.number;
-          most = most_next i j c.clearance (λ t. not-lt→le c.clearance (clear i j) r.number (number i j) (false_T f)) r.most;
+          most = most_next i j c.clearance (λ t. not_lt→le c.clearance (clear i j) r.number (number i j) (false_T f)) r.most;
           from = found_counted c r.from;
         }
     pass i j c false t on e f r =
@@ -226,7 +226,7 @@ module _ (cover : ℕ → ℕ → Bool) (clear : ℕ → ℕ → Float) where
       where
         forth : NoneServes cover clear → lt clearance_limit (search cover clear).clearance ≡ false
         forth none =
-            T-false (lt clearance_limit (search cover clear).clearance)
+            T_false (lt clearance_limit (search cover clear).clearance)
             (not_T (lt clearance_limit (search cover clear).clearance) (λ t. let (i, j, w, f) = found_is (search cover clear) search_reaches t in none i j w.serves))
 
         back : lt clearance_limit (search cover clear).clearance ≡ false → NoneServes cover clear
@@ -257,6 +257,6 @@ module _ (cover : ℕ → ℕ → Bool) (clear : ℕ → ℕ → Float) (i j k l
   clearest_once d = by (ordered i j k l)
     where
       by : After i j k l ⊎ (((k ≡ i) × (l ≡ j)) ⊎ After k l i j) → (k ≡ i) × (l ≡ j)
-      by (inl h) = absurd (T_not (lt (clear k l) (clear i j)) (le→not-lt (clear i j) (clear k l) (d.most i j c.serves.on c.serves.covered)) (c.first k l d.serves.on d.serves.covered h))
+      by (inl h) = absurd (T_not (lt (clear k l) (clear i j)) (le→not_lt (clear i j) (clear k l) (d.most i j c.serves.on c.serves.covered)) (c.first k l d.serves.on d.serves.covered h))
       by (inr (inl e)) = e
-      by (inr (inr h)) = absurd (T_not (lt (clear i j) (clear k l)) (le→not-lt (clear k l) (clear i j) (c.most k l d.serves.on d.serves.covered)) (d.first i j c.serves.on c.serves.covered h))
+      by (inr (inr h)) = absurd (T_not (lt (clear i j) (clear k l)) (le→not_lt (clear k l) (clear i j) (c.most k l d.serves.on d.serves.covered)) (d.first i j c.serves.on c.serves.covered h))

@@ -13,7 +13,7 @@ use Rattle.leaves.specs.Bounds.{smaller_of, larger_of}
 use Rattle.leaves.proofs.Choices.{smaller_by_test, smaller_le_first, smaller_le_second, smaller_number, larger_by_test}
 use Rattle.leaves.specs.Keys.{Key}
 use Rattle.leaves.proofs.Hypotenuses.{key_is, inf_key, smaller_key}
-use Rattle.leaves.proofs.Order.{le_left, le_self, float_le_trans, le→not-lt}
+use Rattle.leaves.proofs.Order.{le_left, le_self, float_le_trans, le→not_lt}
 use Rattle.sheet.specs.Content.{Point}
 use Rattle.clearance.specs.Clearance.{residual}
 use Rattle.points.proofs.ColumnOrder.{holds}
@@ -35,7 +35,7 @@ both false b e = absurd (subst T (sym e) tt)
 -- ---- the larger of `bar` and what is not above it
 
 pub larger_stays : (bar x : Float) → T (le x bar) → larger_of bar x ≡ bar
-larger_stays bar x h = larger_by_test bar x ∙ ap (λ (t : Bool). cond t x bar) (not_so (lt bar x) (le→not-lt x bar h))
+larger_stays bar x h = larger_by_test bar x ∙ ap (λ (t : Bool). cond t x bar) (not_so (lt bar x) (le→not_lt x bar h))
 
 module _ (p : Point) where
   pub key_of_lem : (s : Segment) → Key (key_to p s)

@@ -4,7 +4,7 @@
 -- -0 two steps may change places.
 use Rattle.std.proofs.Common.{◌≡◌, Bool, true, false, cond, not, T, sym, refl, ◌∙◌}
 use lib.Ieee.{Float, Format, fits, is_nan, lt, le}
-use Rattle.leaves.proofs.Order.{le_self, lt→le, lt_asym, lt_left, lt_right, lt_trans, minus_zero, not-lt→le, same}
+use Rattle.leaves.proofs.Order.{le_self, lt→le, lt_asym, lt_left, lt_right, lt_trans, minus_zero, not_lt→le, same}
 use Rattle.leaves.specs.Bounds.{smaller_of, larger_of}
 
 -- a value that the format holds and that is not -0. It may be a NaN.
@@ -67,7 +67,7 @@ smaller_le_first a b n = either (λ (x : Float). T (le x a)) (lt b a) b a (lt→
 
 pub smaller_le_second : (a b : Float) → T (not (is_nan a)) → T (not (is_nan b)) → T (le (smaller_of a b) b)
 unfolding smaller_of
-smaller_le_second a b n o = either (λ (x : Float). T (le x b)) (lt b a) b a (λ t. le_self b o) (not-lt→le b a o n)
+smaller_le_second a b n o = either (λ (x : Float). T (le x b)) (lt b a) b a (λ t. le_self b o) (not_lt→le b a o n)
 
 -- s may be anything that fits, a and b may be NaNs
 pub smaller_swap : (f : Format) (s a b : Float) → T (fits f s) → Clear f a → Clear f b → smaller_of (smaller_of s a) b ≡ smaller_of (smaller_of s b) a

@@ -5,7 +5,7 @@
 use Rattle.std.proofs.Common.{◌≡◌, ℕ, ◌+◌, ◌*◌, ◌<◌, ◌≤◌, Bool, true, false, not, T, ℤ, sym, refl, ap, ◌∙◌, inl, inr, mul-le-mul_right, add-mul, eq-zero-or-pos, mul-pos, zero-mul, arith, nltb→le}
 use lib.Arith.{le→nltb}
 use lib.Ieee.{Float, nan, inf, fin, up, down, neg, is_nan, lt, le}
-use Rattle.leaves.proofs.Order.{le→not-lt, not-lt→le}
+use Rattle.leaves.proofs.Order.{le→not_lt, not_lt→le}
 
 -- ---- the order
 
@@ -17,7 +17,7 @@ Ordered true p false q = Unit {0}
 Ordered true p true q = q ≤ p
 
 pub le→ordered : (s : Bool) (m : ℕ) (e : ℤ) (t : Bool) (n : ℕ) (d : ℤ) → T (le (fin s m e) (fin t n d)) → Ordered s (m * up e * down d) t (n * up d * down e)
-le→ordered s m e t n d l = go s t (le→not-lt (fin s m e) (fin t n d) l)
+le→ordered s m e t n d l = go s t (le→not_lt (fin s m e) (fin t n d) l)
   where
     go : (s t : Bool) → T (not (lt (fin t n d) (fin s m e))) → Ordered s (m * up e * down d) t (n * up d * down e)
     go false false l = unfold lt in nltb→le (n * up d * down e) (m * up e * down d) l
@@ -27,7 +27,7 @@ le→ordered s m e t n d l = go s t (le→not-lt (fin s m e) (fin t n d) l)
 
 pub ordered→le : (s : Bool) (m : ℕ) (e : ℤ) (t : Bool) (n : ℕ) (d : ℤ) → Ordered s (m * up e * down d) t (n * up d * down e) → T (le (fin s m e) (fin t n d))
 unfolding is_nan
-ordered→le s m e t n d l = not-lt→le (fin t n d) (fin s m e) tt tt (go s t l)
+ordered→le s m e t n d l = not_lt→le (fin t n d) (fin s m e) tt tt (go s t l)
   where
     go : (s t : Bool) → Ordered s (m * up e * down d) t (n * up d * down e) → T (not (lt (fin t n d) (fin s m e)))
     go false false l = unfold lt in le→nltb (n * up d * down e) (m * up e * down d) l

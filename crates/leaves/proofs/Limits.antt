@@ -12,7 +12,7 @@ use Rattle.leaves.specs.Root.{root_in, root_of}
 use Rattle.leaves.specs.Keys.{Key}
 use Rattle.leaves.proofs.Hypotenuses.{key_is, hypot_is, hypot_of_key_is, hypot_mono, hypot_by_key, hypot3_by_key, inf_key, hypot_of_inf}
 use Rattle.leaves.proofs.Monotone.{add_le, add_number, square_mono}
-use Rattle.leaves.proofs.Order.{le_left, le_lt, le→not-lt, lt_le_trans, lt_left, lt_trans, not-lt→le}
+use Rattle.leaves.proofs.Order.{le_left, le_lt, le→not_lt, lt_le_trans, lt_left, lt_trans, not_lt→le}
 use Rattle.leaves.proofs.RootOrder.{unsigned_not_negative}
 use Rattle.leaves.proofs.Scaling.{mul_by_zero}
 use Rattle.leaves.proofs.Signs.{square_positive}
@@ -42,7 +42,7 @@ module _ (f : Format) (limit d x : Float) (L : T (fits f limit)) (D : T (fits f 
   by_first : T (not (is_nan d)) → T (not (lt x d)) → not (lt limit d) ≡ (not (lt limit d) || le x limit)
   by_first n l =
       held_first (not (lt limit d)) (le x limit)
-      (λ t. not_T (lt limit d) (λ u. T_not (lt limit x) (le→not-lt x limit t) (lt_le_trans f limit d x L D X u (not-lt→le x d (le_left x limit t) n l))))
+      (λ t. not_T (lt limit d) (λ u. T_not (lt limit x) (le→not_lt x limit t) (lt_le_trans f limit d x L D X u (not_lt→le x d (le_left x limit t) n l))))
 
 -- the less of d and x is not above the limit where d or x is not: a NaN is passed over, and no value is above a NaN
 pub least_limit : (f : Format) (limit d x : Float) → T (fits f limit) → T (fits f d) → T (fits f x) → T (not (is_nan d)) → not (lt limit (smaller_of d x)) ≡ (not (lt limit d) || le x limit)
@@ -80,7 +80,7 @@ key_mono a b c p q l n =
     let none : Float = fin false 0 (pos 0) in
     let firsts = square_mono binary64 a b p q l in
     let second = sum_number binary64 (mul binary64 b b) (mul binary64 c c) n in
-    let seconds = not-lt→le (mul binary64 c c) none second tt (not_T (lt (mul binary64 c c) none) (unsigned_not_negative (mul binary64 c c) (square_positive binary64 c))) in
+    let seconds = not_lt→le (mul binary64 c c) none second tt (not_T (lt (mul binary64 c c) none) (unsigned_not_negative (mul binary64 c c) (square_positive binary64 c))) in
     subst (λ (z : Float). T (le (add binary64 (mul binary64 a a) z) (add binary64 (mul binary64 b b) (mul binary64 c c)))) (sym (zero_square binary64))
     (add_le binary64 (mul binary64 a a) (mul binary64 b b) none (mul binary64 c c) (add_number binary64 (mul binary64 a a) none (le_left (mul binary64 a a) (mul binary64 b b) firsts) tt) n firsts seconds)
 
@@ -108,7 +108,7 @@ far_hypot limit k h a b c reaches near =
     let keys = key_mono (hypot_of_key k) (hypot_of a b) c (hypot_of_key_is k h.key).plain (hypot_is a b).plain first (key_number outer (le_left (hypot_of_key outer) limit short)) in
     let hypots = hypot_mono alone outer (key_is (hypot_of_key k) constants.plus_zero) (key_is (hypot_of a b) c) keys in
     let longer = subst (λ (d : Float). T (lt limit d)) (hypot_by_key (hypot_of_key k) constants.plus_zero) h.longer in
-    T_not (lt limit (hypot_of_key outer)) (le→not-lt (hypot_of_key outer) limit short)
+    T_not (lt limit (hypot_of_key outer)) (le→not_lt (hypot_of_key outer) limit short)
     (lt_le_trans binary64 limit (hypot_of_key alone) (hypot_of_key outer) h.held (hypot_of_key_is alone (key_is (hypot_of_key k) constants.plus_zero)).held (hypot_of_key_is outer (key_is (hypot_of a b) c)).held longer hypots)
 
 inf_alone : key_of (inf false) constants.plus_zero ≡ inf false

@@ -222,11 +222,11 @@ le_right (fin s m e) nan h = h
 le_right x (inf s) h = tt
 le_right x (fin s m e) h = tt
 
-pub not-lt→le : (x y : Float) → T (not (is_nan x)) → T (not (is_nan y)) → T (not (lt x y)) → T (le y x)
-not-lt→le x y h k l = subst T (sym (le_lt y x k h)) l
+pub not_lt→le : (x y : Float) → T (not (is_nan x)) → T (not (is_nan y)) → T (not (lt x y)) → T (le y x)
+not_lt→le x y h k l = subst T (sym (le_lt y x k h)) l
 
-pub le→not-lt : (x y : Float) → T (le x y) → T (not (lt y x))
-le→not-lt x y l = subst T (le_lt x y (le_left x y l) (le_right x y l)) l
+pub le→not_lt : (x y : Float) → T (le x y) → T (not (lt y x))
+le→not_lt x y l = subst T (le_lt x y (le_left x y l) (le_right x y l)) l
 
 pub lt→le : (x y : Float) → T (lt x y) → T (le x y)
 unfolding le
@@ -236,12 +236,12 @@ pub eq→le : (x y : Float) → T (eq x y) → T (le x y)
 unfolding le
 eq→le x y e = or_r (lt x y) (eq x y) e
 
-pub eq→not-lt : (x y : Float) → T (eq x y) → T (not (lt y x))
-eq→not-lt x y e = le→not-lt x y (eq→le x y e)
+pub eq→not_lt : (x y : Float) → T (eq x y) → T (not (lt y x))
+eq→not_lt x y e = le→not_lt x y (eq→le x y e)
 
 pub le_antisym : (x y : Float) → T (le x y) → T (le y x) → T (eq x y)
 unfolding le
-le_antisym x y p q = or_rest (lt x y) (eq x y) (le→not-lt y x q) p
+le_antisym x y p q = or_rest (lt x y) (eq x y) (le→not_lt y x q) p
 
 opposite : (a b : ℕ) → T (eqb a b && eqb a 0) → T (eqb b a && eqb b 0)
 opposite a b h =
@@ -269,13 +269,13 @@ eq_sym (fin s m e) (inf t) h = h
 eq_sym (fin s m e) (fin t n d) h = level_sym s t (m * up e * down d) (n * up d * down e) h
 
 pub lt_asym : (x y : Float) → T (lt x y) → T (lt y x) → ⊥
-lt_asym x y l = T_not (lt y x) (le→not-lt x y (lt→le x y l))
+lt_asym x y l = T_not (lt y x) (le→not_lt x y (lt→le x y l))
 
 pub float_lt_irrefl : (x : Float) → T (lt x x) → ⊥
 float_lt_irrefl x l = lt_asym x x l l
 
 pub le_self : (x : Float) → T (not (is_nan x)) → T (le x x)
-le_self x h = not-lt→le x x h h (not_T (lt x x) (float_lt_irrefl x))
+le_self x h = not_lt→le x x h h (not_T (lt x x) (float_lt_irrefl x))
 
 -- ---- the infinities are the ends
 
@@ -325,10 +325,10 @@ module _ (f : Format) (x y : Float) (h : T (fits f x)) (k : T (fits f y)) where
   place→lt n l = subst T (sym (lt_place f x y h k n)) (lt→ltb (place f x) (place f y) l)
 
   pub le→place : T (le x y) → place f x ≤ place f y
-  le→place l = nltb→le (place f y) (place f x) (subst (λ (b : Bool). T (not b)) (lt_place f y x k h (le_right x y l)) (le→not-lt x y l))
+  le→place l = nltb→le (place f y) (place f x) (subst (λ (b : Bool). T (not b)) (lt_place f y x k h (le_right x y l)) (le→not_lt x y l))
 
   pub place→le : T (not (is_nan x)) → T (not (is_nan y)) → place f x ≤ place f y → T (le x y)
-  place→le n o l = not-lt→le y x o n (subst (λ (b : Bool). T (not b)) (sym (lt_place f y x k h o)) (le→nltb (place f y) (place f x) l))
+  place→le n o l = not_lt→le y x o n (subst (λ (b : Bool). T (not b)) (sym (lt_place f y x k h o)) (le→nltb (place f y) (place f x) l))
 
 module _ (f : Format) (x y z : Float) (h : T (fits f x)) (k : T (fits f y)) (j : T (fits f z)) where
   pub lt_trans : T (lt x y) → T (lt y z) → T (lt x z)
@@ -384,7 +384,7 @@ same_place f (fin true m e) (fin true n d) h k _ _ a b q =
 
 -- two values that are neither a NaN nor -0, neither of them less than the other
 pub same : (f : Format) (x y : Float) → T (fits f x) → T (fits f y) → T (not (is_nan x)) → T (not (is_nan y)) → T (not (minus_zero x)) → T (not (minus_zero y)) → T (not (lt x y)) → T (not (lt y x)) → x ≡ y
-same f x y h k n o a b p q = same_place f x y h k n o a b (le_antisymm (le→place f x y h k (not-lt→le y x o n q)) (le→place f y x k h (not-lt→le x y n o p)))
+same f x y h k n o a b p q = same_place f x y h k n o a b (le_antisymm (le→place f x y h k (not_lt→le y x o n q)) (le→place f y x k h (not_lt→le x y n o p)))
 
 -- ---- zeros
 
@@ -418,7 +418,7 @@ clear_of_nonzero (fin true (suc m) e) h = tt
 -- of two values that are equal and no zeros each is the other
 pub same_nonzero : (f : Format) (x y : Float) → T (fits f x) → T (fits f y) → T (not (eq x constants.plus_zero)) → T (le x y) → T (le y x) → y ≡ x
 same_nonzero f x y h k n p q =
-    same f y x k h (le_right x y p) (le_left x y p) (clear_of_nonzero y (not_T (eq y constants.plus_zero) also)) (clear_of_nonzero x n) (le→not-lt x y p) (le→not-lt y x q)
+    same f y x k h (le_right x y p) (le_left x y p) (clear_of_nonzero y (not_T (eq y constants.plus_zero) also)) (clear_of_nonzero x n) (le→not_lt x y p) (le→not_lt y x q)
   where
     also : T (eq y constants.plus_zero) → ⊥
     also e =

@@ -16,9 +16,9 @@ use Rattle.leaves.proofs.Values.{units_of_value, units_small, same_value}
 use Rattle.leaves.proofs.Rounding.{root_rounds}
 use Rattle.leaves.proofs.Packing.{prec_hid, packed}
 
-pub rounded-fits : (f : Format) (n : ℕ) → T (fits f (rounded f n))
+pub rounded_fits : (f : Format) (n : ℕ) → T (fits f (rounded f n))
 unfolding rounded
-rounded-fits f n = round-fits f false _ _
+rounded_fits f n = round-fits f false _ _
 
 -- a zero has no value above 0
 none : (d : ℤ) (A g : ℕ) → 0 < A → zero * up d * 2 ^ g ≡ A * down d → ⊥
@@ -62,7 +62,7 @@ module _ (f : Format) (x : Float) (significand h j g : ℕ) (e : 2 * (low f + 1)
       let p = packed f h q (at_least f r lo) (at_most f r hi) small in
       let fine : q * 2 ^ h < overflow f = subst (λ (z : ℕ). z < overflow f) (units_of_value f (of_bits f (h * hid f + q)) false (q * 2 ^ h) p) (units_small f (of_bits f (h * hid f + q)) (of_bits-fits f (h * hid f + q))) in
       let is : root_in f x ≡ rounded f (S * (2 ^ h * 2 ^ h)) = root_of_value f x (significand * 2 ^ (2 * h)) g j (mul-pos some (pow_pos (2 * h))) v e ∙ ap (rounded f) swap in
-      same_value f (of_bits f (h * hid f + q)) (rounded f (S * (2 ^ h * 2 ^ h))) false (q * 2 ^ h) (2 ^ low f) (pow_pos (low f)) (of_bits-fits f (h * hid f + q)) (rounded-fits f (S * (2 ^ h * 2 ^ h)))
+      same_value f (of_bits f (h * hid f + q)) (rounded f (S * (2 ^ h * 2 ^ h))) false (q * 2 ^ h) (2 ^ low f) (pow_pos (low f)) (of_bits-fits f (h * hid f + q)) (rounded_fits f (S * (2 ^ h * 2 ^ h)))
       p
       (root_rounds f S h lo (less r hi) tie fine)
       ∙ sym is

@@ -16,7 +16,7 @@ use Rattle.leaves.proofs.Rounding.{rounded_is}
 use Rattle.leaves.proofs.RootCases.{none_below}
 use Rattle.leaves.proofs.Roots.{root_units, root_value, root_held, root_is_rounded, some_units}
 use Rattle.leaves.proofs.Signs.{round_sign, clear_of_sign}
-use Rattle.leaves.proofs.Order.{lt_left, lt_right, le_left, le_right, le→place, le→not-lt, lt→le, not-lt→le, same}
+use Rattle.leaves.proofs.Order.{lt_left, lt_right, le_left, le_right, le→place, le→not_lt, lt→le, not_lt→le, same}
 
 -- ---- the order
 
@@ -125,14 +125,14 @@ module _ (f : Format) (a b : Float) (p : T (fits f a)) (q : T (fits f b)) (s : s
   not_less_roots : T (not (lt b a)) → T (lt (root_in f b) (root_in f a)) → ⊥
   not_less_roots n l =
       T_not (lt (root_in f b) (root_in f a))
-      (le→not-lt (root_in f a) (root_in f b) (root_mono f a b p q s (not-lt→le b a (number_of_root f b (lt_left (root_in f b) (root_in f a) l)) (number_of_root f a (lt_right (root_in f b) (root_in f a) l)) n)))
+      (le→not_lt (root_in f a) (root_in f b) (root_mono f a b p q s (not_lt→le b a (number_of_root f b (lt_left (root_in f b) (root_in f a) l)) (number_of_root f a (lt_right (root_in f b) (root_in f a) l)) n)))
       l
 
   same_roots : T (lt b a) → T (not (lt (root_in f b) (root_in f a))) → root_in f a ≡ root_in f b
   same_roots l n =
       let h = root_mono f b a q p t (lt→le b a l) in
       same f (root_in f a) (root_in f b) (root_held f a p) (root_held f b q) (le_right (root_in f b) (root_in f a) h) (le_left (root_in f b) (root_in f a) h)
-      (clear_of_sign (root_in f a) (root_unsigned f a s)) (clear_of_sign (root_in f b) (root_unsigned f b t)) (le→not-lt (root_in f b) (root_in f a) h) n
+      (clear_of_sign (root_in f a) (root_unsigned f a s)) (clear_of_sign (root_in f b) (root_unsigned f b t)) (le→not_lt (root_in f b) (root_in f a) h) n
 
   pub smaller_root : smaller_of (root_in f a) (root_in f b) ≡ root_in f (smaller_of a b)
   unfolding smaller_of

@@ -18,7 +18,7 @@ use Rattle.leaves.proofs.Squares.{PowerSquare, square_suc, square_twice, square_
 use Rattle.leaves.proofs.WholeRoots.{below_next, is_root, root_is, halves, sticky_cases, sticky_le}
 use Rattle.leaves.proofs.Rounding.{rounded_is, quarter}
 use Rattle.leaves.proofs.Closest.{midpoint_below, midpoint_above, grid_small, grid_some}
-use Rattle.leaves.proofs.PackedRoots.{rounded-fits, root_of_value}
+use Rattle.leaves.proofs.PackedRoots.{rounded_fits, root_of_value}
 use Rattle.leaves.proofs.Values.{zero_units, held as in_format, odd, same_units, shifted, own_units, units_of_value, units_small}
 use Rattle.leaves.proofs.Order.{lt→place, place→lt}
 
@@ -193,7 +193,7 @@ root_held f (inf false) held = inf-fits f false
 root_held f (fin true zero e) held = held
 root_held f (fin true (suc m) e) held = nan-fits f
 root_held f (fin false zero e) held = held
-root_held f (fin false (suc m) e) held = rounded-fits f (square_units f (suc m * up e) (down e))
+root_held f (fin false (suc m) e) held = rounded_fits f (square_units f (suc m * up e) (down e))
 
 pub root_nearest : (f : Format) (x : Float) → T (fits f x) → T (positive x) → NearestRoot f x (root_in f x)
 root_nearest f x held p =

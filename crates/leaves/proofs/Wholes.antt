@@ -9,7 +9,7 @@ use native.Mathlib.Decide.{dec_le}
 use lib.Ieee.{Float, nan, inf, fin, Format, binary64, low, hid, prec, up, down, round, neg, fits, le}
 use lib.Ieee.Back.{round_whole, whole_unique}
 use lib.Ieee.Exact.{HasValue, round_exact}
-use lib.Ieee.Fits.{down_pos, round-fits as rounded-fits}
+use lib.Ieee.Fits.{down_pos, round-fits}
 use lib.Ieee.Nearest.{div_mono}
 use lib.Ieee.Scale.{overflow}
 use Rattle.leaves.specs.Nearest.{gap, NearestWhole}
@@ -98,16 +98,16 @@ pub f64_round_nearest : (s : Bool) (m : ℕ) (e : ℤ) → T (fits binary64 (fin
 unfolding round_of
 f64_round_nearest s m e h = round_nearest binary64 s m e h
 
-pub round-fits : (f : Format) (x : Float) → T (fits f (round_in f x))
+pub round_in_fits : (f : Format) (x : Float) → T (fits f (round_in f x))
 unfolding round_in fits
-round-fits f nan = tt
-round-fits f (inf s) = tt
-round-fits f (fin s m e) = rounded-fits f s (nearest_whole (m * up e) (down e)) 1
+round_in_fits f nan = tt
+round_in_fits f (inf s) = tt
+round_in_fits f (fin s m e) = round-fits f s (nearest_whole (m * up e) (down e)) 1
 
 -- a value with no fraction is its own whole number
 pub round_whole_value : (f : Format) (s : Bool) (m k : ℕ) → T (fits f (fin s m (pos k))) → round_in f (fin s m (pos k)) ≡ fin s m (pos k)
 round_whole_value f s m k h =
-    whole_unique f (round_in f (fin s m (pos k))) (fin s m (pos k)) s (m * 2 ^ k) (round-fits f (fin s m (pos k))) h
+    whole_unique f (round_in f (fin s m (pos k))) (fin s m (pos k)) s (m * 2 ^ k) (round_in_fits f (fin s m (pos k))) h
     (subst (λ (q : ℕ). HasValue (round_in f (fin s m (pos k))) s q 1) (itself (m * 2 ^ k)) (round_value f s m (pos k) h))
     (refl, refl)
 

@@ -16,4 +16,5 @@ pub use bounds::{clamp, exceeds, larger_of, smaller_of};
 pub use hypotenuse::{hypot, hypot_of_key, hypot3, key};
 pub use nearest::round;
 pub use square_root::root;
-pub use wrapping::{rem_tau, wrap};
+// `turn` is an older name of `wrap`.
+pub use wrapping::{rem_tau, wrap, wrap as turn};

@@ -1,7 +1,7 @@
 -- Whether a join of a ring is too wide, a point at a time. Every coedge has `more` points after its first, and `left`
 -- of them follow before the next coedge's first.
 use mathlib.Core.Path.{◌≡◌, refl, ap}
-use mathlib.Core.Bool.{Bool, true, false, ◌||◌}
+use mathlib.Core.Bool.{Bool, true, false, ◌||◌, or-false}
 use mathlib.Core.List.{List, [], ◌∷◌, ◌++◌}
 use Prim.Native.Nat.{ℕ, suc, ◌-◌}
 use native.Mathlib.Omega.{arith}
@@ -10,10 +10,6 @@ use Rattle.sheet.specs.Content.{Point}
 use Rattle.answers.specs.Lists.{any_of}
 use Rattle.points.specs.Bounds.{last_of}
 use Rattle.points.specs.Joins.{join, seams, joins, wide, ring_open, every}
-
-or-false : (b : Bool) → (b || false) ≡ b
-or-false true = refl
-or-false false = refl
 
 module _ (periodic : Bool) (scale_u scale_v : Float) (more : ℕ) (first : Point) where
   -- of the joins that are left: those of the points ps after the one before them, and the ring's first to its last

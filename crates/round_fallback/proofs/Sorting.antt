@@ -18,7 +18,7 @@ use lib.Seq.{drop-cons, take-suc, split_at, set_at, length-take-le, take_all, ta
 use Rattle.leaves.specs.Constants.{one}
 use Rattle.leaves.specs.Wrap.{rem_tau}
 use Rattle.leaves.proofs.Folds.{All, all_perm, fold_keeps}
-use Rattle.leaves.proofs.Order.{lt_asym, eq→le, eq→not-lt, le→not-lt, not-lt→le, le_antisym, float_le_trans}
+use Rattle.leaves.proofs.Order.{lt_asym, eq→le, eq→not_lt, le→not_lt, not_lt→le, le_antisym, float_le_trans}
 use Rattle.leaves.proofs.Patterns.{one_over_number}
 use Rattle.leaves.proofs.Wraps.{rem_tau_fits, rem_tau_number}
 use Rattle.answers.specs.Limits.{beyond, argument_limit}
@@ -159,8 +159,8 @@ unfolding precedes
 precedes_asym x y t =
     one_way (lt x y) (lt y x) (eq x y) (eq y x) (lt (div binary64 one x) (div binary64 one y)) (lt (div binary64 one y) (div binary64 one x))
     (lt_asym x y)
-    (λ l e. T_not (lt x y) (eq→not-lt y x e) l)
-    (λ e l. T_not (lt y x) (eq→not-lt x y e) l)
+    (λ l e. T_not (lt x y) (eq→not_lt y x e) l)
+    (λ e l. T_not (lt y x) (eq→not_lt x y e) l)
     (lt_asym (div binary64 one x) (div binary64 one y))
     t
 
@@ -204,17 +204,17 @@ precedes_not_trans x y z hx hy hz p q =
     let held : (w : Float) → T (fits binary64 (div binary64 one w)) = div-fits binary64 one in
     let p' = parts (lt y x) (eq y x) (lt (over y) (over x)) p in
     let q' = parts (lt z y) (eq z y) (lt (over z) (over y)) q in
-    let xy : T (le x y) = not-lt→le y x hy.1 hx.1 p'.0 in
-    let yz : T (le y z) = not-lt→le z y hz.1 hy.1 q'.0 in
-    whole (lt z x) (eq z x) (lt (over z) (over x)) (le→not-lt x z (float_le_trans binary64 x y z hx.0 hy.0 hz.0 xy yz))
+    let xy : T (le x y) = not_lt→le y x hy.1 hx.1 p'.0 in
+    let yz : T (le y z) = not_lt→le z y hz.1 hy.1 q'.0 in
+    whole (lt z x) (eq z x) (lt (over z) (over x)) (le→not_lt x z (float_le_trans binary64 x y z hx.0 hy.0 hz.0 xy yz))
     (λ e.
     let zx : T (le z x) = eq→le z x e in
     let yx : T (eq y x) = le_antisym y x (float_le_trans binary64 y z x hy.0 hz.0 hx.0 yz zx) xy in
     let zy : T (eq z y) = le_antisym z y (float_le_trans binary64 z x y hz.0 hx.0 hy.0 zx xy) yz in
-    le→not-lt (over x) (over z)
+    le→not_lt (over x) (over z)
     (float_le_trans binary64 (over x) (over y) (over z) (held x) (held y) (held z)
-    (not-lt→le (over y) (over x) (one_over_number y hy.1) (one_over_number x hx.1) (p'.1 yx))
-    (not-lt→le (over z) (over y) (one_over_number z hz.1) (one_over_number y hy.1) (q'.1 zy))))
+    (not_lt→le (over y) (over x) (one_over_number y hy.1) (one_over_number x hx.1) (p'.1 yx))
+    (not_lt→le (over z) (over y) (one_over_number z hz.1) (one_over_number y hy.1) (q'.1 zy))))
 
 insert_all : (Q : Float → Type 0) (x : Float) (ys : List Float) → Q x → All Q ys → All Q (insert_of x ys)
 insert_all Q x ys p h = all_perm Q (Permᴰ.symm (insert_perm x ys)) (p, h)
