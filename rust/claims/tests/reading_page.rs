@@ -8,9 +8,9 @@ use std::path::{Path, PathBuf};
 use claims::{reached, rows};
 
 const CALLS: [(&str, &str); 3] = [
-    ("crates/chart/specs/Chart.antt", "chartOf"),
-    ("crates/picker/specs/ImagePick.antt", "imagePickOf"),
-    ("crates/picker/specs/PlanePick.antt", "planePickOf"),
+    ("crates/chart/specs/Chart.antt", "chart_of"),
+    ("crates/picker/specs/ImagePick.antt", "image_pick_of"),
+    ("crates/picker/specs/PlanePick.antt", "plane_pick_of"),
 ];
 
 fn root() -> PathBuf {
