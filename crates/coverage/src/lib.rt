@@ -10,4 +10,6 @@ mod ring_grid;
 mod winding;
 
 pub use covering::cover;
+// `inside` stands in the crate of that name, and is exported here as before.
+pub use inside::inside;
 pub use ring_grid::{clear, crossing_grid};
