@@ -1,12 +1,12 @@
 #!/usr/bin/env python3
 """Brings this repository's own names to the kit's spelling: definitions, lemmas, fields and constructors in snake case.
 
-usage: python3 tools/respell.py [--check] [FOLDER]     FOLDER is the top of a checkout, after the kit's port.py; default '.'
+usage: python3 tools/respell.py [--check] [FOLDER]    FOLDER: the top of a checkout, after the kit's port.py; default '.'
 
 A name that specs/ or proofs/ declare, or that a proof binds, gets underscores: coedgeSize and coedge-size become
-coedge_size. A type, a module and a fact keep their capitals; the kit's names stay, the names that the kit
-makes of the source (goals, steps, joins: what stands behind 'goal.', 'c.' and the like), and every name of src/ that is
-not a definition's. Where a lemma and a definition would get one name, the lemma gets '_lem' behind it, and a few pairs
+coedge_size. A type, a module and a fact keep their capitals. What stays: the kit's names, those that the kit makes of
+the source (goals, steps, joins: what stands behind 'goal.', 'c.' and the like), and every name of src/ that is not a
+definition's. Where a lemma and a definition would get one name, the lemma gets '_lem' behind it, and a few pairs
 of names have a row of their own in OTHER. What turns: the code of .antt and .rt files, their comments, must-fail edits,
 and code spans of .md files. --check writes nothing and prints the table.
 """
@@ -48,8 +48,6 @@ HERE = {
     "crates/leaves/proofs/Roots.antt": {"rounded-fits": "rounded_fits"},
     "crates/leaves/proofs/Wholes.antt": {"round-fits": "round_in_fits"},
 }
-# Words of the pages and comments that are spelled like a lemma.
-PLAIN = set()
 
 
 def snake(name):
@@ -126,7 +124,9 @@ def names(root):
             used[m[1]] += 1
     table, taken = {}, collections.defaultdict(set)
     for name in set(own) | set(used):
-        if name in kit or name in goals or snake(name) == name or name[0].isupper() and not ("-" in name and name in own):
+        if name in kit or name in goals or snake(name) == name:
+            continue
+        if name[0].isupper() and not ("-" in name and name in own):
             continue
         if not (CAMEL.fullmatch(name) or DASHED.fullmatch(name)):
             continue
@@ -148,7 +148,7 @@ def antt(text, table):
     kept = set(re.findall(r"(?<![\w'.-])goal\.([^\s(){}.;,@]+)", text))
     for m in COMMENT.finditer(text):
         out.append(code(text[at : m.start()], table, kept))
-        out.append(prose(m[0], table))
+        out.append(words(m[0], table))
         at = m.end()
     out.append(code(text[at:], table, kept))
     return "".join(out)
@@ -176,25 +176,18 @@ def code(text, table, kept):
     return "".join(out) + text[at:]
 
 
-def prose(text, table):
-    """A comment: names in camel case, and dashed ones that no sentence has."""
-
-    def turned(m):
-        new = table.get(m[0])
-        return m[0] if new is None or "-" in m[0] and m[0] in PLAIN else new
-
-    return RUST.sub(turned, text)
+def words(text, table):
+    """A text, turned word by word."""
+    return RUST.sub(lambda m: table.get(m[0], m[0]), text)
 
 
 def rust(text, table):
     """The text of an .rt file, turned: strings stay."""
     out, at = [], 0
     for m in re.finditer(r'//[^\n]*|"(?:\\.|[^"\\])*"|\'(?:\\.|[^\'\\\n])\'', text):
-        out.append(RUST.sub(lambda w: table.get(w[0], w[0]), text[at : m.start()]))
-        out.append(prose(m[0], table) if m[0].startswith("//") else m[0])
+        out += [words(text[at : m.start()], table), words(m[0], table) if m[0].startswith("//") else m[0]]
         at = m.end()
-    out.append(RUST.sub(lambda w: table.get(w[0], w[0]), text[at:]))
-    return "".join(out)
+    return "".join(out) + words(text[at:], table)
 
 
 def edit(text, table):
@@ -211,7 +204,7 @@ def edit(text, table):
 def page(text, table):
     """A page: its code spans and fenced blocks."""
     span = re.compile(r"^```[^\n]*\n.*?^```|`[^`\n]+`", re.S | re.M)
-    return span.sub(lambda m: RUST.sub(lambda w: table.get(w[0], w[0]), m[0]), text)
+    return span.sub(lambda m: words(m[0], table), text)
 
 
 def main(argv):
