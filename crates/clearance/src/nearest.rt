@@ -11,6 +11,7 @@ ghost use Rattle.clearance.specs.SegmentLists.{segments_in, segment_at};
 use crate::segment_list::NUMBERS;
 use crate::straight::straight_key;
 use points::Segment;
+use sheet::Point;
 
 // The segments of four coedges, four numbers each.
 const FEW_NUMBERS: usize = 272;
@@ -32,7 +33,14 @@ fn key_at(u: f64, v: f64, list: &[f64], k: usize) -> f64
     let a_v = list[at + 1];
     let b_u = list[at + 2];
     let b_v = list[at + 3];
-    straight_key(u, v, Segment { a_u, a_v, b_u, b_v })
+    straight_key(
+        u,
+        v,
+        Segment {
+            a: Point { u: a_u, v: a_v },
+            b: Point { u: b_u, v: b_v },
+        },
+    )
 }
 
 // Whether there is a segment in place k whose key is not above `bar`.

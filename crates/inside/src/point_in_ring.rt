@@ -3,10 +3,10 @@ ghost use Rattle.std.specs.Prelude.{◌≡◌};
 ghost use Rattle.std.specs.Bool.{xor};
 ghost use Rattle.std.specs.Float.Ieee.{lt};
 ghost use Rattle.sheet.specs.Content.{point, pairs};
-ghost use Rattle.points.specs.Segments.{segment_of};
 ghost use Rattle.inside.specs.Inside.{flips, inside_of};
 
 use points::Segment;
+use sheet::Point;
 
 // Whether just one of two numbers is above a third.
 pub fn just_one_above(a: f64, b: f64, x: f64) -> bool
@@ -17,12 +17,12 @@ pub fn just_one_above(a: f64, b: f64, x: f64) -> bool
 
 // Whether the edge between a and b, the point before it, flips `inside` at (u, v).
 fn is_flip(u: f64, v: f64, s: Segment) -> bool
-    ensures { result ≡ flips (point u v) (segment_of s).a (segment_of s).b }
+    ensures { result ≡ flips (point u v) s.a s.b }
 {
-    let a_u = s.a_u;
-    let a_v = s.a_v;
-    let b_u = s.b_u;
-    let b_v = s.b_v;
+    let a_u = s.a.u;
+    let a_v = s.a.v;
+    let b_u = s.b.u;
+    let b_v = s.b.v;
     if just_one_above(a_v, b_v, v) {
         u < (b_u - a_u) * (v - a_v) / (b_v - a_v) + a_u
     } else {
@@ -46,7 +46,15 @@ pub fn inside(ring: &[f64], u: f64, v: f64) -> bool
     while k < count {
         let a_u = ring[2 * k];
         let a_v = ring[2 * k + 1];
-        in_so_far = in_so_far != is_flip(u, v, Segment { a_u, a_v, b_u, b_v });
+        in_so_far = in_so_far
+            != is_flip(
+                u,
+                v,
+                Segment {
+                    a: Point { u: a_u, v: a_v },
+                    b: Point { u: b_u, v: b_v },
+                },
+            );
         b_u = a_u;
         b_v = a_v;
         k += 1;

@@ -3,13 +3,13 @@
 use Rattle.std.specs.Prelude.{List, [], ◌∷◌, Float}
 use Rattle.std.specs.Float.{binary64}
 use Rattle.std.specs.Float.Ieee.{of_bits, add, sub, div}
-use Rattle.sheet.specs.Content.{Point, point}
+use Rattle.sheet.specs.Content.{Point}
 use Rattle.points.specs.Turns.{turns}
-use Rattle.points.specs.declared.segment.Segment as declared
+use Rattle.points.specs.declared.segment.Between as declared
 
-pub record Between (A : Type 0) : Type 0 where
-  pub a : A
-  pub b : A
+-- the code's struct (src/segment.rt)
+abbrev pub Between : Type 0 → Type 0
+Between A = declared.Between A
 
 abbrev pub between : {A : Type 0} → A → A → Between A
 between a b = record { a = a; b = b }
@@ -31,10 +31,6 @@ Segment = Between Point
 
 abbrev pub segment : Point → Point → Segment
 segment a b = between a b
-
--- the code's struct (src/segment.rt), as a segment
-abbrev pub segment_of : declared.Segment → Segment
-segment_of s = segment (point s.a_u s.a_v) (point s.b_u s.b_v)
 
 -- ---- rule 7, periodic: "b.u gains round((a.u − b.u)/P) × P"; rule 8: "b moves as in 7"
 

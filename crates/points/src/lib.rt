@@ -15,6 +15,6 @@ pub use bounds::{Box, box_of, goes_around};
 pub use grid::part;
 pub use joins::is_open;
 pub use ring::{normalise, normalise_into, read, unroll};
-pub use segment::Segment;
+pub use segment::{Between, Segment};
 pub use turns::{is_number, keeps_order, turns as whole_turns};
 pub use written::{phase_angle, write};

@@ -1,10 +1,13 @@
-// A segment, by value (rule 6).
+// What joins two points (rule 6).
+
+use sheet::Point;
 
 // From a to b.
 #[derive(Clone, Copy)]
-pub struct Segment {
-    pub a_u: f64,
-    pub a_v: f64,
-    pub b_u: f64,
-    pub b_v: f64,
+pub struct Between<A> {
+    pub a: A,
+    pub b: A,
 }
+
+// Between two points of the chart.
+pub type Segment = Between<Point>;

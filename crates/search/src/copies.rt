@@ -5,13 +5,14 @@
 ghost use Rattle.std.specs.Prelude.{◌≡◌, map, ◌+◌, ◌/◌, ◌≤◌, length};
 ghost use Rattle.sheet.specs.Content.{point};
 ghost use Rattle.points.specs.Grid.{part as part_of};
-ghost use Rattle.points.specs.Segments.{segment, segment_of};
+ghost use Rattle.points.specs.Segments.{segment};
 ghost use Rattle.search.specs.Copies.{ends_at, regular, same_ends, Serving, Serves, Ready};
 ghost use Rattle.clearance.specs.Clearance.{shifted_to};
 ghost use Rattle.clearance.specs.SegmentLists.{segments_in, segment_at};
 
 use clearance::{NUMBERS, put_segment};
 use points::{Segment, part};
+use sheet::Point;
 
 // The u of a copy's two ends.
 #[derive(Clone, Copy)]
@@ -93,16 +94,16 @@ fn served(period: f64, i: u32, ends: CopyEnds, a_u: f64, b_u: f64) -> u32
 // The copy of a segment at column i, in its four places: left as it is where it still serves, else worked
 // out. It answers a column up to which it serves.
 fn renew_one(period: f64, i: u32, s: Segment, until: u32, copy: &mut [f64]) -> u32
-    requires { (1 ≤ i) × (i ≤ 31) × (length copy.old ≡ 4) × Serving period i until (segment_of s) (segment_at copy.old 0) }
-    ensures { (i ≤ result) × Serving period i result (segment_of s) (segment_at copy.new 0) }
+    requires { (1 ≤ i) × (i ≤ 31) × (length copy.old ≡ 4) × Serving period i until s (segment_at copy.old 0) }
+    ensures { (i ≤ result) × Serving period i result s (segment_at copy.new 0) }
 {
     if i <= until {
         return until;
     }
-    let a_u = s.a_u;
-    let b_u = s.b_u;
+    let a_u = s.a.u;
+    let b_u = s.b.u;
     let ends = ends_at(period, part(i), a_u, b_u);
-    put_segment(ends.a, s.a_v, ends.b, s.b_v, copy);
+    put_segment(ends.a, s.a.v, ends.b, s.b.v, copy);
     served(period, i, ends, a_u, b_u)
 }
 
@@ -123,7 +124,10 @@ pub(crate) fn renew(period: f64, i: u32, list: &[f64], until: &mut [u32], copies
         until[k] = renew_one(
             period,
             i,
-            Segment { a_u, a_v, b_u, b_v },
+            Segment {
+                a: Point { u: a_u, v: a_v },
+                b: Point { u: b_u, v: b_v },
+            },
             until[k],
             &mut copies[from..to],
         );

@@ -2,10 +2,11 @@
 -- A ring is a list of coedges, a coedge a deviation and the points (u, v) sampled along it, however many.
 use mathlib.Core.List.{List, [], ◌∷◌, ◌++◌, flat_map}
 use Rattle.std.specs.Prelude.{ℕ, ◌*◌, ◌/◌, length, drop, Float}
+use Rattle.sheet.specs.declared.point.Point as declared
 
-pub record Point : Type 0 where
-  pub u : Float
-  pub v : Float
+-- the code's struct (src/point.rt)
+abbrev pub Point : Type 0
+Point = declared.Point
 
 pub record Coedge : Type 0 where
   pub deviation : Float

@@ -5,6 +5,7 @@
 
 mod checks;
 mod fields;
+mod point;
 mod walk;
 
 pub use checks::refusal;
@@ -12,3 +13,4 @@ pub use fields::{
     BLOCK_HEAD, COEDGE_NUMBERS, COEDGE_POINTS, COEDGE_SIZE, FIRST_POINT, MOST_COEDGES,
     MOST_NUMBERS, MOST_RINGS, SMALL_NUMBERS, block_size, byte_at, head_size, number,
 };
+pub use point::Point;

@@ -10,4 +10,4 @@ pub returns : goal.returns
 returns c =
     let x = c.args in
     let e = c.ends_at-ends in
-    (c.served.ensures.0, λ m h k. c.served.ensures.1 x.s.a_v x.s.b_v m h k ∙ sym (copy_put x.period (part x.i) x.s.a_u x.s.a_v x.s.b_u x.s.b_v e.result _ (ends_are x.period x.s.a_u x.s.b_u c.part.ensures e.result e.ensures) (c.put.ensures ∙ put_all _ _ c.requires.2)))
+    (c.served.ensures.0, λ m h k. c.served.ensures.1 x.s.a.v x.s.b.v m h k ∙ sym (copy_put x.period (part x.i) x.s.a.u x.s.a.v x.s.b.u x.s.b.v e.result _ (ends_are x.period x.s.a.u x.s.b.u c.part.ensures e.result e.ensures) (c.put.ensures ∙ put_all _ _ c.requires.2)))
