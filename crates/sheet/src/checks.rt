@@ -2,10 +2,11 @@
 ghost use Rattle.std.specs.Prelude.{◌≡◌, true, false, ◌++◌};
 ghost use Rattle.sheet.specs.Layout.{plane, sheet_of};
 ghost use Rattle.sheet.specs.Checks.{length_wrong, version_wrong, kind_wrong, count_wrong, blocks_wrong, plane_wrong, layout_checks, content_checks};
-ghost use Rattle.answers.specs.Outcome.{first};
+ghost use Rattle.answers.specs.Outcome.{first, status_of};
 
 use crate::fields::{byte_at, head_size, word};
 use crate::walk::{COORDINATE_LIMIT, any_beyond, blocks_fill, coedges_wrong, rings_wrong};
+use answers::Refusal;
 
 // 2, for a component of the u axis or the normal.
 const AXIS_LIMIT: f64 = 2.0;
@@ -80,35 +81,35 @@ fn plane_wrong(s: &[u8]) -> bool
     }
 }
 
-// The number of the first check of 1 to 7 that fails, 0 where none does.
-pub fn refusal(s: &[u8]) -> u32
-    ensures { result ≡ first (layout_checks s.now ++ content_checks (sheet_of s.now)) }
+// The first check of 1 to 7 that fails.
+pub fn check(s: &[u8]) -> Result<(), Refusal>
+    ensures { status_of result ≡ first (layout_checks s.now ++ content_checks (sheet_of s.now)) }
 {
     if length_wrong(s) {
-        return 1;
+        return Err(Refusal::Length);
     }
     if version_wrong(s) {
-        return 2;
+        return Err(Refusal::Version);
     }
     if kind_wrong(s) {
-        return 3;
+        return Err(Refusal::Kind);
     }
     if count_wrong(s) {
-        return 4;
+        return Err(Refusal::RingCount);
     }
     if blocks_wrong(s) {
-        return 5;
+        return Err(Refusal::Blocks);
     }
     let from = head_size(byte_at(s, 5));
     let count = byte_at(s, 7);
     if coedges_wrong(s, from, count) {
-        return 6;
+        return Err(Refusal::Coedges);
     }
     if plane_wrong(s) {
-        return 7;
+        return Err(Refusal::Numbers);
     }
     if rings_wrong(s, from, count) {
-        return 7;
+        return Err(Refusal::Numbers);
     }
-    0
+    Ok(())
 }
