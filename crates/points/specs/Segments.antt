@@ -1,6 +1,6 @@
 -- Document 01, "Chart", rule 6: "Segments join each ring point to the next, the last to the first".
 -- The points of a ring are in the chart, or their images in space.
-use Rattle.std.specs.Prelude.{List, [], ◌∷◌, Float}
+use Rattle.std.specs.Prelude.{List, [], ◌∷◌, Option, None, Some, Float}
 use Rattle.std.specs.Float.{binary64}
 use Rattle.std.specs.Float.Ieee.{of_bits, add, sub, div}
 use Rattle.sheet.specs.Content.{Point}
@@ -23,6 +23,13 @@ unfoldable pub segments : {A : Type 0} → List A → List (Between A)
 unfolding segments_from
 segments [] = []
 segments (p ∷ ps) = segments_from p p ps
+
+-- the segments that are left of a ring: from the point before the rest through the rest, and back to the first; none
+-- where the last of them is given
+unfoldable pub left : {A : Type 0} → Option (Between A) → List A → List (Between A)
+unfolding segments_from
+left None ps = []
+left (Some last) ps = segments_from last.b last.a ps
 
 -- ---- in the chart
 
