@@ -1,9 +1,8 @@
 -- The box of points, a point at a time: the four folds of the coordinates are one fold of the box.
-use mathlib.Core.Path.{◌≡◌, refl, ◌∙◌}
+use mathlib.Core.Path.{◌≡◌, refl}
 use mathlib.Core.Bool.{true, false}
 use mathlib.Core.List.{List, [], ◌∷◌, foldl, map}
 use lib.Ieee.{Float, inf}
-use lib.ListN.{length, take}
 use Rattle.leaves.specs.Bounds.{smaller_of, larger_of}
 use Rattle.sheet.specs.Content.{Point, point}
 use Rattle.std.specs.List.{fold}

@@ -5,7 +5,7 @@ use mathlib.Core.List.{List, [], ◌∷◌, ◌++◌, append-nil, append_assoc}
 use Prim.Native.Nat.{ℕ, suc, ◌+◌, ◌<◌, ◌≤◌}
 use native.Mathlib.Omega.{arith}
 use lib.ListN.{length, get_or, take, drop, set, length-append, length-drop, length-set, drop_of_length-le}
-use lib.Seq.{drop-cons, drop-drop, drop_at, take_at, set_at, get_or-drop}
+use lib.Seq.{drop-cons, drop-drop, drop_at, take_at, set_at}
 use Rattle.answers.specs.Lists.{over}
 use Rattle.answers.proofs.Over.{over_room}
 

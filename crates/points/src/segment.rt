@@ -1,7 +1,7 @@
 // What joins two points (rule 6), and a ring's segments, one after the other.
 ghost use Rattle.std.specs.Prelude.{◌≡◌};
 ghost use Rattle.std.specs.Iterator.{YieldsFirst, item_count};
-ghost use Rattle.points.specs.Segments.{segments, left};
+ghost use Rattle.points.specs.Segments.{segments, segments_left};
 
 use sheet::Point;
 
@@ -26,11 +26,11 @@ pub struct SegmentsLeft<'a, A> {
 impl<'a, A: Copy> Iterator for SegmentsLeft<'a, A> {
     type Item = Between<A>;
 
-    ghost next_gives = { YieldsFirst (λ s. left s.last s.rest.now) };
+    ghost next_gives = { YieldsFirst segments_left };
 
-    ghost remaining = { item_count (λ s. left s.last s.rest.now) };
+    ghost remaining = { item_count segments_left };
 
-    #[tactic(auto, unfolding(crate::specs::Segments::left, crate::specs::Segments::segments_from))]
+    #[tactic(auto, unfolding(crate::specs::Segments::segments_left, crate::specs::Segments::segments_from))]
     fn next(&mut self) -> Option<Between<A>> {
         let last = self.last?;
         match self.rest.split_first() {
@@ -54,9 +54,9 @@ impl<'a, A: Copy> Iterator for SegmentsLeft<'a, A> {
 }
 
 // The segments that join each point of the ring to the next, the last to the first.
-#[tactic(auto, unfolding(crate::specs::Segments::left, crate::specs::Segments::segments))]
+#[tactic(auto, unfolding(crate::specs::Segments::segments_left, crate::specs::Segments::segments))]
 pub fn segments<A: Copy>(ring: &[A]) -> SegmentsLeft<'_, A>
-    ensures { left result.last result.rest.now ≡ segments ring.now }
+    ensures { segments_left result ≡ segments ring.now }
 {
     match ring.split_first() {
         None => SegmentsLeft {

@@ -1,6 +1,6 @@
 -- `points::ring::unroll` moves every point. The invariant: of the moved points the first are written, and the last of
 -- them is `previous`.
-use Rattle.std.proofs.Common.{◌≡◌, [], refl, ap, ◌∙◌, map, arith}
+use Rattle.std.proofs.Common.{◌≡◌, [], refl, ap, map, arith}
 use lib.Ieee.{nan}
 use Rattle.std.proofs.lemmas.List.{drop_all}
 use Rattle.sheet.specs.Content.{point}
