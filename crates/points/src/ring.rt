@@ -70,7 +70,7 @@ fn moved(kind: u8, previous: Point, p: Point) -> Point
     ensures { result ≡ moved kind previous p }
 {
     Point {
-        u: if 1 <= kind && kind <= 4 {
+        u: if matches!(kind, 1..=4) {
             near_previous(previous.u, p.u)
         } else {
             p.u

@@ -34,20 +34,11 @@ impl<'a, A: Copy> Iterator for SegmentsLeft<'a, A> {
     fn next(&mut self) -> Option<Between<A>> {
         let last = self.last?;
         match self.rest.split_first() {
-            None => {
-                self.last = None;
-                Some(last)
-            }
+            None => self.last.take(),
             Some((next, rest)) => {
-                self.last = Some(Between {
-                    a: *next,
-                    b: last.b,
-                });
+                self.last = Some(Between { a: *next, ..last });
                 self.rest = rest;
-                Some(Between {
-                    a: last.a,
-                    b: *next,
-                })
+                Some(Between { b: *next, ..last })
             }
         }
     }
