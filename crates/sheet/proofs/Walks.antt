@@ -66,7 +66,7 @@ deviation_is s = refl
 
 -- a point's numbers are two of the numbers
 pub any_point : (n : ℕ) (s : List ℕ) → any_of point_wrong (points n s) ≡ any_of (beyond coordinate_limit) (numbers (2 * n) s)
-unfolding any_of points numbers point_wrong
+unfolding points numbers point_wrong
 any_point zero s = refl
 any_point (suc n) s =
     ap (λ (b : Bool). (beyond coordinate_limit (number s) || beyond coordinate_limit (number (drop 8 s))) || b)
@@ -103,7 +103,7 @@ plane_is s e =
     ∙ ap₂ (λ (a b : List Float). any_of (beyond coordinate_limit) a || any_of (beyond axis_limit) b) (origin_of (drop 8 s)) (axes_of_lem (drop 8 s) ∙ ap (numbers 6) (drop-drop 24 8 s))
 
 pub no_plane_lem : (s : List ℕ) → (kind s ≡ 0 → ⊥) → plane_wrong (plane s) ≡ false
-unfolding plane plane_wrong any_of
+unfolding plane plane_wrong
 no_plane_lem s e = rw (ne_eqb (kind s) 0 e)
 
 -- ---- blocks, whose sizes differ
@@ -160,12 +160,12 @@ pub rings_end : (s : List ℕ) (n k : ℕ) → n ≤ k → map ring (cut (n - k)
 rings_end s n k h = ap (map ring) (cut_end s n k h)
 
 wrong_empty : (total : ℕ) (r : List Coedge) (rest : List (List Coedge)) → length r ≡ 0 → wrong_from total (r ∷ rest) ≡ true
-unfolding any_of empty
+unfolding empty
 wrong_empty total [] rest e = refl
 wrong_empty total (c ∷ cs) rest e = absurd (omega arith)
 
 wrong_more : (total : ℕ) (r : List Coedge) (rest : List (List Coedge)) → (length r ≡ 0 → ⊥) → wrong_from total (r ∷ rest) ≡ wrong_from (total + length r) rest
-unfolding any_of empty
+unfolding empty
 wrong_more total [] rest e = absurd (e refl)
 wrong_more total (c ∷ cs) rest e = refl
 
@@ -182,5 +182,4 @@ wrong_passed s at n k total h z =
     ∙ ap (λ (m : ℕ). wrong_from (total + m) (map ring (cut (n - (k + 1)) (drop (at + block_size (drop at s)) s)))) (counted s at)
 
 pub wrong_end : (s : List ℕ) (n k total : ℕ) → n ≤ k → wrong_from total (map ring (cut (n - k) s)) ≡ ltb 128 total
-unfolding any_of
 wrong_end s n k total h = ap (wrong_from total) (rings_end s n k h)
