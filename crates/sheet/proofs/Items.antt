@@ -2,16 +2,19 @@
 -- handed on as a part of the bytes, and reads as it does where it stands.
 use mathlib.Core.Path.{◌≡◌, refl, sym, ap, ap₂, ◌∙◌}
 use mathlib.Core.Logic.{inl, inr}
-use mathlib.Core.List.{List, [], ◌∷◌}
+use mathlib.Core.Bool.{Bool, ◌||◌}
+use mathlib.Core.List.{List, [], ◌∷◌, map}
 use Prim.Native.Nat.{ℕ, zero, suc, ◌+◌, ◌-◌, ◌*◌, ◌≤◌}
 use native.Mathlib.Omega.{arith}
 use lib.Ieee.{Float}
 use lib.ListN.{length, take, drop, length-take}
-use lib.Seq.{take-take}
+use lib.Seq.{take-take, drop-drop}
+use Rattle.std.specs.List.{list_any, range_with_len}
 use Rattle.std.proofs.lemmas.Bool.{cases_lt}
 use Rattle.std.proofs.lemmas.List.{drop-take, take_all}
-use Rattle.sheet.specs.Content.{Point, Coedge, point}
-use Rattle.sheet.specs.Layout.{big, number_of, number, points, coedge, coedges, block_size, cut}
+use Rattle.answers.specs.Lists.{any_of}
+use Rattle.sheet.specs.Content.{Point, point}
+use Rattle.sheet.specs.Layout.{big, number_of, number, numbers, points, coedge, coedges, block_size, cut}
 use Rattle.sheet.proofs.Bytes.{number_whole}
 
 -- ---- a number, points and a coedge are the same in a part of the bytes that holds all of them
@@ -68,3 +71,18 @@ points_more n m s h e = let next : n ≡ suc m = omega arith in rw next
 pub points_none : (n : ℕ) (s : List ℕ) → (1 ≤ n → ⊥) → points n s ≡ []
 unfolding points
 points_none n s h = let none : n ≡ 0 = omega arith in rw none
+
+-- ---- tests of any of them
+
+pub any_mapped : {A B : Type 0} (test : B → Bool) (f : A → B) (xs : List A) → list_any (λ (x : A). test (f x)) xs ≡ any_of test (map f xs)
+any_mapped test f [] = refl
+any_mapped test f (x ∷ xs) = ap (λ (b : Bool). test (f x) || b) (any_mapped test f xs)
+
+-- numbers that are read in equal steps
+pub any_number : (test : Float → Bool) (s : List ℕ) (from n k : ℕ) → list_any (λ (i : ℕ). test (number (drop (from + 8 * i) s))) (range_with_len k n) ≡ any_of test (numbers n (drop (from + 8 * k) s))
+unfolding numbers
+any_number test s from zero k = refl
+any_number test s from (suc n) k =
+    let next : from + 8 * k + 8 ≡ from + 8 * (k + 1) = omega arith in
+    ap (λ (b : Bool). test (number (drop (from + 8 * k) s)) || b)
+    (any_number test s from n (k + 1) ∙ ap (λ (l : List ℕ). any_of test (numbers n l)) (ap (λ (i : ℕ). drop i s) (sym next) ∙ sym (drop-drop 8 (from + 8 * k) s)))

@@ -57,6 +57,7 @@ fn blocks_wrong(s: &[u8]) -> bool
 }
 
 // 7, of a plane's origin, u axis and normal.
+#[tactic(auto, using(crate::proofs::Walks::plane_is, crate::proofs::Walks::no_plane_lem))]
 fn plane_wrong(s: &[u8]) -> bool
     ensures { result ≡ plane_wrong (plane s.now) }
 {
@@ -65,6 +66,7 @@ fn plane_wrong(s: &[u8]) -> bool
 }
 
 // The number of the first check of 1 to 7 that fails, 0 where none does.
+#[tactic(auto, using(crate::proofs::Checked::table))]
 pub fn refusal(s: &[u8]) -> u32
     ensures { result ≡ first (layout_checks s.now ++ content_checks (sheet_of s.now)) }
 {

@@ -60,7 +60,7 @@ pub fn number(s: &[u8], at: usize) -> f64
     let Some(rest) = s.get(at..) else {
         return 0.0;
     };
-    let Some(bytes) = rest.first_chunk() else {
+    let Some(bytes) = rest.first_chunk::<8>() else {
         return 0.0;
     };
     float(u64::from_be_bytes(*bytes))

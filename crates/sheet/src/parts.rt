@@ -10,6 +10,9 @@ use crate::fields::{
 use crate::point::Point;
 use std::marker::Model;
 
+// A deviation is an f64, a point two.
+const DEVIATION_SIZE: usize = 8;
+
 const POINT_SIZE: usize = 16;
 
 // The first `size` bytes, or as many as there are, and those behind them.
@@ -145,7 +148,7 @@ impl<'a> Iterator for CoedgePoints<'a> {
 pub fn points(part: &[u8]) -> CoedgePoints<'_>
     ensures { result ≡ (coedge part.now).points }
 {
-    let (_deviation, rest) = parted(part, 8);
+    let (_deviation, rest) = parted(part, DEVIATION_SIZE);
     CoedgePoints {
         rest,
         left: COEDGE_POINTS,

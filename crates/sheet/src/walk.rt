@@ -1,5 +1,7 @@
 // The checks of the ring blocks and their numbers.
-ghost use Rattle.std.specs.Prelude.{◌≡◌, map, ◌*◌, ◌+◌, ◌≤◌, drop};
+ghost use Rattle.std.specs.Prelude.{◌≡◌, map, ◌&&◌, ◌*◌, ◌+◌, ◌≤◌, drop};
+ghost use Rattle.std.specs.Float.Ieee.{le, lt};
+ghost use Rattle.leaves.specs.Constants.{plus_zero, deviation_limit};
 ghost use Rattle.answers.specs.Lists.{any_of};
 ghost use Rattle.answers.specs.Limits.{beyond};
 ghost use Rattle.sheet.specs.Layout.{blocks, ring, coedge, numbers};
@@ -30,12 +32,19 @@ fn point_wrong(p: Point) -> bool
     is_beyond(COORDINATE_LIMIT, p.u) || is_beyond(COORDINATE_LIMIT, p.v)
 }
 
+// Not below 0, and below the limit.
+#[tactic(auto, using(leaves::proofs::ConstantBits::deviation_limit_bits))]
+fn is_deviation(x: f64) -> bool
+    ensures { result ≡ (le plus_zero x && lt x deviation_limit) }
+{
+    0.0 <= x && x < DEVIATION_LIMIT
+}
+
 // Check 7 of a coedge, which is a part of the sheet.
 fn coedge_wrong(part: &[u8]) -> bool
     ensures { result ≡ coedge_wrong (coedge part.now) }
 {
-    let deviation = number(part, 0);
-    !(0.0 <= deviation && deviation < DEVIATION_LIMIT) || points(part).any(point_wrong)
+    !is_deviation(number(part, 0)) || points(part).any(point_wrong)
 }
 
 // Check 7 of a ring, whose block is a part of the sheet.
