@@ -3,13 +3,13 @@
 use mathlib.Core.Path.{◌≡◌, refl, sym, ap, ap₂, ◌∙◌}
 use mathlib.Core.Logic.{inl, inr}
 use mathlib.Core.Bool.{Bool, ◌||◌}
-use mathlib.Core.List.{List, [], ◌∷◌, map}
+use mathlib.Core.List.{List, [], ◌∷◌, map, foldl}
 use Prim.Native.Nat.{ℕ, zero, suc, ◌+◌, ◌-◌, ◌*◌, ◌≤◌}
 use native.Mathlib.Omega.{arith}
 use lib.Ieee.{Float}
 use lib.ListN.{length, take, drop, length-take}
 use lib.Seq.{take-take, drop-drop}
-use Rattle.std.specs.List.{list_any, range_with_len}
+use Rattle.std.specs.List.{list_any, range_with_len, fold}
 use Rattle.std.proofs.lemmas.Bool.{cases_lt}
 use Rattle.std.proofs.lemmas.List.{drop-take, take_all}
 use Rattle.answers.specs.Lists.{any_of}
@@ -86,3 +86,13 @@ any_number test s from (suc n) k =
     let next : from + 8 * k + 8 ≡ from + 8 * (k + 1) = omega arith in
     ap (λ (b : Bool). test (number (drop (from + 8 * k) s)) || b)
     (any_number test s from n (k + 1) ∙ ap (λ (l : List ℕ). any_of test (numbers n l)) (ap (λ (i : ℕ). drop i s) (sym next) ∙ sym (drop-drop 8 (from + 8 * k) s)))
+
+-- ---- a fold over them
+
+pub folded : {S A : Type 0} (step : S → A → S) (s : S) (xs : List A) → fold step s xs ≡ foldl step s xs
+folded step s [] = refl
+folded step s (x ∷ xs) = folded step (step s x) xs
+
+pub folded_mapped : {S A B : Type 0} (step : S → B → S) (f : A → B) (s : S) (xs : List A) → fold (λ (t : S) (x : A). step t (f x)) s xs ≡ foldl step s (map f xs)
+folded_mapped step f s [] = refl
+folded_mapped step f s (x ∷ xs) = folded_mapped step f (step s (f x)) xs
