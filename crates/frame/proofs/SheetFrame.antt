@@ -5,7 +5,6 @@ use mathlib.Core.Path.{◌≡◌, refl, sym, ap, ap₂, ◌∙◌}
 use Prim.Native.Nat.{ℕ, ◌*◌, ◌≤◌}
 use native.Mathlib.Omega.{arith}
 use lib.ListN.{length, drop}
-use Rattle.answers.specs.Lists.{any_of}
 use Rattle.answers.specs.Outcome.{first}
 use Rattle.sheet.specs.Checks.{layout_checks, content_checks}
 use Rattle.sheet.specs.Content.{Point, Coedge, ring_points, flat}

@@ -2,10 +2,11 @@
 ghost use Rattle.std.specs.Prelude.{◌≡◌, true, false, ◌++◌};
 ghost use Rattle.sheet.specs.Layout.{plane, sheet_of};
 ghost use Rattle.sheet.specs.Checks.{length_wrong, version_wrong, kind_wrong, count_wrong, blocks_wrong, plane_wrong, layout_checks, content_checks};
-ghost use Rattle.answers.specs.Outcome.{first};
+ghost use Rattle.answers.specs.Outcome.{first, status_of};
 
 use crate::fields::{byte_at, head_size, word};
 use crate::walk::{COORDINATE_LIMIT, any_beyond, blocks_fill, coedges_wrong, rings_wrong};
+use answers::Refusal;
 
 // 2, for a component of the u axis or the normal.
 const AXIS_LIMIT: f64 = 2.0;
@@ -65,34 +66,31 @@ fn plane_wrong(s: &[u8]) -> bool
         && (any_beyond(COORDINATE_LIMIT, s, 8, 3) || any_beyond(AXIS_LIMIT, s, 32, 6))
 }
 
-// The number of the first check of 1 to 7 that fails, 0 where none does.
-#[tactic(auto, using(crate::proofs::Checked::table))]
-pub fn refusal(s: &[u8]) -> u32
-    ensures { result ≡ first (layout_checks s.now ++ content_checks (sheet_of s.now)) }
+// The first check of 1 to 7 that fails.
+#[tactic(auto, using(crate::proofs::Checked::table), unfolding(answers::specs::Outcome::status_of, answers::specs::Outcome::number_of))]
+pub fn check(s: &[u8]) -> Result<(), Refusal>
+    ensures { status_of result ≡ first (layout_checks s.now ++ content_checks (sheet_of s.now)) }
 {
     if length_wrong(s) {
-        return 1;
+        return Err(Refusal::Length);
     }
     if version_wrong(s) {
-        return 2;
+        return Err(Refusal::Version);
     }
     if kind_wrong(s) {
-        return 3;
+        return Err(Refusal::Kind);
     }
     if count_wrong(s) {
-        return 4;
+        return Err(Refusal::RingCount);
     }
     if blocks_wrong(s) {
-        return 5;
+        return Err(Refusal::Blocks);
     }
     if coedges_wrong(s) {
-        return 6;
+        return Err(Refusal::Coedges);
     }
-    if plane_wrong(s) {
-        return 7;
+    if plane_wrong(s) || rings_wrong(s) {
+        return Err(Refusal::Numbers);
     }
-    if rings_wrong(s) {
-        return 7;
-    }
-    0
+    Ok(())
 }

@@ -9,7 +9,7 @@ mod parts;
 mod point;
 mod walk;
 
-pub use checks::refusal;
+pub use checks::check;
 pub use fields::{
     BLOCK_HEAD, COEDGE_NUMBERS, COEDGE_POINTS, COEDGE_SIZE, FIRST_POINT, MOST_COEDGES,
     MOST_NUMBERS, MOST_RINGS, SMALL_NUMBERS, block_size, byte_at, head_size, number,
