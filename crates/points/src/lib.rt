@@ -4,6 +4,7 @@
 #![tactic(auto)]
 
 mod bounds;
+mod columns;
 mod grid;
 mod joins;
 mod ring;
@@ -12,6 +13,7 @@ mod turns;
 mod written;
 
 pub use bounds::{Box, box_of, goes_around};
+pub use columns::column_ahead;
 pub use grid::part;
 pub use joins::is_open;
 pub use ring::{normalise, normalise_into, read, unroll};
