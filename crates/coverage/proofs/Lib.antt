@@ -9,3 +9,4 @@ pub mod Windings
 -- the rings in one list, and what they cover
 pub mod Cutting
 pub mod Parity
+pub mod Sides

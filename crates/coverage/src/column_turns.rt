@@ -4,13 +4,46 @@
 ghost use Rattle.std.specs.Prelude.{◌≡◌, ◌≤◌};
 ghost use Rattle.coverage.specs.Lines.{turn_at, Turning};
 
-use points::{keeps_order, part, whole_turns};
+use points::{column_ahead, keeps_order, part, whole_turns};
 
-// Turns, and a column up to which they serve.
+// The turns of a segment with the middle mid, worked out at one column, and a column up to which they serve.
 #[derive(Clone, Copy)]
-pub(crate) struct ColumnTurn {
+pub(crate) struct ColumnTurns {
+    pub period: f64,
+    pub mid: f64,
     pub by: f64,
+    pub from: u32,
     pub until: u32,
+    ghost serving: { Turning period mid from until by },
+}
+
+impl ColumnTurns {
+    // Worked out at column i.
+    pub(crate) fn worked_out(period: f64, mid: f64, i: u32) -> ColumnTurns
+        requires { i ≤ 31 }
+        ensures { (result.period ≡ period) × (result.mid ≡ mid) × (result.from ≡ i) × (i ≤ result.until) }
+    {
+        let by = turn_at(period, mid, i);
+        ColumnTurns {
+            period,
+            mid,
+            by,
+            from: i,
+            until: turned_until(period, mid, i, by),
+        }
+    }
+
+    // At column i: those at hand where they still serve, else worked out.
+    pub(crate) fn at(self, i: u32) -> ColumnTurns
+        requires { (self.from ≤ i) × (i ≤ 31) }
+        ensures { (result.period ≡ self.period) × (result.mid ≡ self.mid) × (result.from ≤ i) × (i ≤ result.until) }
+    {
+        if i <= self.until {
+            self
+        } else {
+            ColumnTurns::worked_out(self.period, self.mid, i)
+        }
+    }
 }
 
 // The turns at column i of a segment with the middle mid.
@@ -28,33 +61,5 @@ fn turned_until(period: f64, mid: f64, i: u32, by: f64) -> u32
     if !keeps_order(period, mid) {
         return i;
     }
-    if by == turn_at(period, mid, 31) {
-        return 31;
-    }
-    let mut step: u32 = 16;
-    while 0 < step {
-        let m = i + step;
-        if m < 31 {
-            if by == turn_at(period, mid, m) {
-                return m;
-            }
-        }
-        step /= 2;
-    }
-    i
-}
-
-// The turns at column i: those at hand where they still serve, else worked out.
-pub(crate) fn turned(period: f64, mid: f64, i: u32, last: ColumnTurn) -> ColumnTurn
-    requires { (i ≤ 31) × Turning period mid i last.until last.by }
-    ensures { (i ≤ result.until) × Turning period mid i result.until result.by }
-{
-    if i <= last.until {
-        return last;
-    }
-    let by = turn_at(period, mid, i);
-    ColumnTurn {
-        by,
-        until: turned_until(period, mid, i, by),
-    }
+    column_ahead(i, |m| by == turn_at(period, mid, m)).unwrap_or(i)
 }

@@ -10,9 +10,10 @@ ghost use Rattle.inside.specs.Lines.{Holds, by_columns, by_rows};
 ghost use Rattle.frame.specs.Parts.{rings_from};
 ghost use Rattle.coverage.specs.Coverage.{winding_of, covered as covered_of};
 
-use crate::marks::{GRID_POINTS, mark_flips, mark_windings};
+use crate::marks::{mark_flips, mark_windings};
 use crate::winding::add_ring;
 use frame::Frame;
+use inside::GRID_POINTS;
 
 // At most so many ends are looked at, more than a sheet can have, and as many numbers as the largest sheet has. So no
 // sum of windings overflows.
@@ -33,7 +34,7 @@ fn place(at: usize, low: usize, high: usize) -> usize
 }
 
 // Adds up the windings of all rings at every grid point, over cells of zeros in the grid's order.
-fn add_rings(period: f64, points: &[f64], ends: &[usize], cells: &mut [i64])
+fn add_rings(period: f64, points: &[f64], ends: &[usize], cells: &mut [i64; GRID_POINTS])
     requires { (length points.now ≤ 4352) × (length ends.now ≤ 256) × (cells.old ≡ replicate 961 (pos 0)) }
     ensures { Holds (pos 0) 961 cells.new (λ (k : ℕ). foldl (λ (n : ℤ) (ring : List Point). n +ℤ winding_of period (by_columns k) ring) (pos 0) (rings_from 0 ends.now points.now)) }
 {
@@ -51,7 +52,7 @@ fn add_rings(period: f64, points: &[f64], ends: &[usize], cells: &mut [i64])
 }
 
 // Flips each grid point once for each ring that it is inside of, over cells that say no, row after row.
-fn flip_rings(points: &[f64], ends: &[usize], cells: &mut [bool])
+fn flip_rings(points: &[f64], ends: &[usize], cells: &mut [bool; GRID_POINTS])
     requires { cells.old ≡ replicate 961 false }
     ensures { Holds false 961 cells.new (λ (k : ℕ). foldl (λ (t : Bool) (ring : List Point). xor t (inside_of ring (by_rows k))) false (rings_from 0 ends.now points.now)) }
 {
@@ -69,29 +70,47 @@ fn flip_rings(points: &[f64], ends: &[usize], cells: &mut [bool])
 }
 
 // Marks the covered grid points of a periodic chart, by the sum of the windings.
-fn cover_by_winding(f: Frame, sense: u8, points: &[f64], ends: &[usize], covered: &mut [bool])
-    requires { (f.periodic ≡ true) × (length points.now ≤ 4352) × (length ends.now ≤ 256) × (length covered.old ≡ 961) }
+fn cover_by_winding(
+    f: Frame,
+    sense: u8,
+    points: &[f64],
+    ends: &[usize],
+    covered: &mut [bool; GRID_POINTS],
+)
+    requires { (f.periodic ≡ true) × (length points.now ≤ 4352) × (length ends.now ≤ 256) }
     ensures { covered.new ≡ grid_of (λ (i j : ℕ). covered_of f sense (rings_from 0 ends.now points.now) (grid_point i j)) }
 {
-    let mut sums = [0i64; 961];
+    let mut sums = [0; GRID_POINTS];
     add_rings(f.period, points, ends, &mut sums);
     mark_windings(f.band, sense, &sums, covered);
 }
 
 // Those of any other chart, by whether the number of rings that a grid point is inside of is odd: no more of it is
 // asked, since an odd number of rings is above 0.
-fn cover_by_inside(f: Frame, sense: u8, points: &[f64], ends: &[usize], covered: &mut [bool])
-    requires { (f.periodic ≡ false) × (length covered.old ≡ 961) }
+fn cover_by_inside(
+    f: Frame,
+    sense: u8,
+    points: &[f64],
+    ends: &[usize],
+    covered: &mut [bool; GRID_POINTS],
+)
+    requires { (f.periodic ≡ false) }
     ensures { covered.new ≡ grid_of (λ (i j : ℕ). covered_of f sense (rings_from 0 ends.now points.now) (grid_point i j)) }
 {
-    let mut cells = [false; 961];
+    let mut cells = [false; GRID_POINTS];
     flip_rings(points, ends, &mut cells);
     mark_flips(f.band, sense, &cells, covered);
 }
 
 // Marks the covered grid points, by the chart's kind.
-fn cover_grid(f: Frame, sense: u8, points: &[f64], ends: &[usize], covered: &mut [bool])
-    requires { (length points.now ≤ 4352) × (length ends.now ≤ 256) × (length covered.old ≡ 961) }
+fn cover_grid(
+    f: Frame,
+    sense: u8,
+    points: &[f64],
+    ends: &[usize],
+    covered: &mut [bool; GRID_POINTS],
+)
+    requires { (length points.now ≤ 4352) × (length ends.now ≤ 256) }
     ensures { covered.new ≡ grid_of (λ (i j : ℕ). covered_of f sense (rings_from 0 ends.now points.now) (grid_point i j)) }
 {
     let periodic = f.periodic;
@@ -107,16 +126,10 @@ fn cover_grid(f: Frame, sense: u8, points: &[f64], ends: &[usize], covered: &mut
 pub fn cover(f: Frame, sense: u8, points: &[f64], ends: &[usize], covered: &mut [bool])
     ensures { covered.new ≡ over (grid_of (λ (i j : ℕ). covered_of f sense (rings_from 0 (take 256 ends.now) (take 4352 points.now)) (grid_point i j))) covered.old }
 {
-    if covered.len() < GRID_POINTS {
+    let Some(front) = covered.first_chunk_mut::<GRID_POINTS>() else {
         return;
-    }
-    let numbers = place(points.len(), 0, sheet::MOST_NUMBERS);
-    let count = place(ends.len(), 0, MOST_ENDS);
-    cover_grid(
-        f,
-        sense,
-        &points[..numbers],
-        &ends[..count],
-        &mut covered[..GRID_POINTS],
-    );
+    };
+    let numbers = sheet::MOST_NUMBERS.min(points.len());
+    let count = MOST_ENDS.min(ends.len());
+    cover_grid(f, sense, &points[..numbers], &ends[..count], front);
 }

@@ -152,7 +152,7 @@ xor_comm true false = refl
 xor_comm false true = refl
 xor_comm false false = refl
 
-module _ (a b : Float) (p q : ℕ) (below_a : Below a p) (below_b : Below b q) where
+module _ {a b : Float} {p q : ℕ} (below_a : Below a p) (below_b : Below b q) where
   pub parted_up : p ≤ q → Parted a b p q
   parted_up h = record { order = h; most = below_b.most; is = λ m l. rw (below_a.is m l, below_b.is m l) (between m p q h) }
 

@@ -7,5 +7,5 @@ mod grid_lines;
 mod lines;
 mod point_in_ring;
 
-pub use lines::flip_ring;
+pub use lines::{GRID_POINTS, flip_ring};
 pub use point_in_ring::{inside, just_one_above};

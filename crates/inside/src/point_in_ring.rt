@@ -4,6 +4,7 @@ ghost use Rattle.std.specs.Bool.{xor};
 ghost use Rattle.std.specs.Float.Ieee.{lt};
 ghost use Rattle.sheet.specs.Content.{point, pairs};
 ghost use Rattle.inside.specs.Inside.{flips, inside_of};
+ghost use Rattle.inside.specs.Lines.{cut as cut_of};
 
 use points::Segment;
 use sheet::Point;
@@ -15,19 +16,22 @@ pub fn just_one_above(a: f64, b: f64, x: f64) -> bool
     (x < a) != (x < b)
 }
 
-// Whether the edge between a and b, the point before it, flips `inside` at (u, v).
-fn is_flip(u: f64, v: f64, s: Segment) -> bool
-    ensures { result ≡ flips (point u v) s.a s.b }
+// The u at which the edge between a and b, the point before it, is at v.
+#[tactic(auto, unfolding(crate::specs::Lines::cut))]
+pub(crate) fn cut(edge: Segment, v: f64) -> f64
+    ensures { result ≡ cut_of edge.a edge.b v }
 {
-    let a_u = s.a.u;
-    let a_v = s.a.v;
-    let b_u = s.b.u;
-    let b_v = s.b.v;
-    if just_one_above(a_v, b_v, v) {
-        u < (b_u - a_u) * (v - a_v) / (b_v - a_v) + a_u
-    } else {
-        false
-    }
+    let a = edge.a;
+    let b = edge.b;
+    (b.u - a.u) * (v - a.v) / (b.v - a.v) + a.u
+}
+
+// Whether the edge between a and b, the point before it, flips `inside` at p.
+#[tactic(auto, unfolding(crate::specs::Inside::flips, crate::specs::Lines::cut))]
+fn is_flip(p: Point, edge: Segment) -> bool
+    ensures { result ≡ flips p edge.a edge.b }
+{
+    just_one_above(edge.a.v, edge.b.v, p.v) && p.u < cut(edge, p.v)
 }
 
 // Whether (u, v) is inside the ring.
@@ -38,6 +42,7 @@ pub fn inside(ring: &[f64], u: f64, v: f64) -> bool
     if count == 0 {
         return false;
     }
+    let p = Point { u, v };
     let mut in_so_far = false;
     let last = count - 1;
     let mut b_u = ring[2 * last];
@@ -46,15 +51,11 @@ pub fn inside(ring: &[f64], u: f64, v: f64) -> bool
     while k < count {
         let a_u = ring[2 * k];
         let a_v = ring[2 * k + 1];
-        in_so_far = in_so_far
-            != is_flip(
-                u,
-                v,
-                Segment {
-                    a: Point { u: a_u, v: a_v },
-                    b: Point { u: b_u, v: b_v },
-                },
-            );
+        let edge = Segment {
+            a: Point { u: a_u, v: a_v },
+            b: Point { u: b_u, v: b_v },
+        };
+        in_so_far ^= is_flip(p, edge);
         b_u = a_u;
         b_v = a_v;
         k += 1;

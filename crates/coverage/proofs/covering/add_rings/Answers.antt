@@ -31,7 +31,7 @@ loop-k-init c =
 pub add_ring-requires : goal.add_ring-requires
 add_ring-requires c =
     let few = c.requires.1 in
-    (c.loop-k.invariant.1, λ n h. omega (arith, c.loop-k.invariant.0, c.loop-k.invariant.2 n h, few))
+    λ n h. omega (arith, c.loop-k.invariant.0, c.loop-k.invariant.1, c.loop-k.invariant.2 n (omega arith), few)
 
 -- a ring has at most half as many points as the list has numbers
 few_points : (period : Float) (n from end : ℕ) (xs : List Float) → length xs ≤ 4352 → nat_abs (winding_of period (by_columns n) (pairs (between from end xs))) ≤ 2176

@@ -19,5 +19,5 @@ returns c =
     let marks = c.mark_flips.ensures in
     all_grid false _ (λ i j. covered f c.args.sense rings (grid_point i j)) (record {
       count = marks.count;
-      is = λ k h. marks.is k h ∙ rw (c.flip_rings.ensures.is (in_rows k) (omega arith), same_point k h) (covered_inside f c.args.sense rings (by_columns k) c.requires.0);
+      is = λ k h. marks.is k h ∙ rw (c.flip_rings.ensures.is (in_rows k) (omega arith), same_point k h) (covered_inside f c.args.sense rings (by_columns k) c.requires);
     })

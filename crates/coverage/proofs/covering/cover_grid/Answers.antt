@@ -2,4 +2,4 @@
 use Rattle.coverage.proofs.covering.cover_grid.Goals as goal
 
 pub cover_by_winding-requires : goal.cover_by_winding-requires
-cover_by_winding-requires c = (c.if-periodic.true, c.requires.0, c.requires.1, c.requires.2)
+cover_by_winding-requires c = (c.if-periodic.true, c.requires.0, c.requires.1)

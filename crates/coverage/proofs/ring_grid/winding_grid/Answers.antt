@@ -16,5 +16,5 @@ returns c =
     let sums = c.add_ring.ensures in
     all_grid (pos 0) _ (λ i j. winding_of x.period (grid_point i j) (pairs x.ring.now)) (record {
       count = sums.count;
-      is = λ k h. sums.is k h ∙ rw (c.clear.ensures, c.requires, get_or-replicate 961 k (pos 0) (pos 0) h) (+ℤ_idl _);
+      is = λ k h. sums.is k h ∙ rw (c.clear.ensures, c.told-crossings, get_or-replicate 961 k (pos 0) (pos 0) h) (+ℤ_idl _);
     })

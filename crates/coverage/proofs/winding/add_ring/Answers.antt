@@ -7,7 +7,6 @@ use mathlib.Core.List.{[], ◌∷◌, foldl}
 use native.Mathlib.Omega.{arith}
 use lib.IntN.{pos}
 use lib.ListN.{get_or}
-use Rattle.sheet.specs.Content.{point}
 use Rattle.points.specs.Segments.{segment}
 use Rattle.points.proofs.Walk.{point_at, walk_step, left_end}
 use Rattle.inside.specs.Lines.{by_columns}
@@ -17,25 +16,25 @@ use Rattle.coverage.proofs.winding.add_ring.Goals as goal
 
 pub returns-then-count-eq0 : goal.returns-then-count-eq0
 returns-then-count-eq0 c =
-    record { count = c.requires.0; is = λ n h. sym (winding_none c.args.period (by_columns n) c.args.ring.now (get_or c.args.cells.now n (pos 0)) c.if-count-eq0.true) }
+    record { count = c.told-cells; is = λ n h. sym (winding_none c.args.period (by_columns n) c.args.ring.now (get_or c.args.cells.now n (pos 0)) c.if-count-eq0.true) }
 
 pub loop-k-init : goal.loop-k-init
 loop-k-init c = (
   omega arith,
   omega arith,
-  c.requires.0,
+  c.told-cells,
   λ n h. omega arith,
   λ n h. winding_start c.args.period (by_columns n) c.args.ring.now (get_or c.args.cells.now n (pos 0)) (omega arith),
 )
 
 pub add_segment-requires : goal.add_segment-requires
-add_segment-requires c = (c.loop-k.invariant.2, λ n h. omega (arith, c.loop-k.invariant.3 n h, c.requires.1 n h))
+add_segment-requires c = λ n h. omega (arith, c.loop-k.invariant.2, c.told-cells, c.loop-k.invariant.3 n (omega arith), c.requires n (omega (arith, c.told-cells)))
 
 pub loop-k-preserved : goal.loop-k-preserved
 loop-k-preserved c =
     let x = c.args in
     let ring = x.ring.now in
-    let a = point c.loop-k.a_u c.loop-k.a_v in
+    let a = c.loop-k.a in
     let k = c.loop-k.k in
     let sums = c.add_segment.ensures in (
       omega arith,
@@ -46,7 +45,7 @@ loop-k-preserved c =
     )
 
 pub add_segment-requires-2 : goal.add_segment-requires-2
-add_segment-requires-2 c = (c.loop-k.invariant.2, λ n h. omega (arith, c.loop-k.invariant.3 n h, c.requires.1 n h))
+add_segment-requires-2 c = λ n h. omega (arith, c.loop-k.invariant.2, c.told-cells, c.loop-k.invariant.3 n (omega arith), c.requires n (omega (arith, c.told-cells)))
 
 pub returns : goal.returns
 returns c =
@@ -55,5 +54,5 @@ returns c =
     let sums = c.add_segment-2.ensures in
     record {
       count = sums.count;
-      is = λ n h. sums.is n h ∙ sym (ap (foldl (wind_step x.period (by_columns n)) (get_or c.loop-k.cells n (pos 0))) (left_end ring (point c.loop-k.a_u c.loop-k.a_v) c.loop-k.k (omega arith))) ∙ c.loop-k.invariant.4 n h;
+      is = λ n h. sums.is n h ∙ sym (ap (foldl (wind_step x.period (by_columns n)) (get_or c.loop-k.cells n (pos 0))) (left_end ring c.loop-k.a c.loop-k.k (omega arith))) ∙ c.loop-k.invariant.4 n h;
     }

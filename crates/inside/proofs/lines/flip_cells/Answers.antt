@@ -16,24 +16,17 @@ use Rattle.inside.proofs.lines.flip_cells.Goals as goal
 pub returns-then-count-eq0 : goal.returns-then-count-eq0
 returns-then-count-eq0 c =
     record {
-      count = c.requires;
+      count = c.told-cells;
       is = λ n h. rw (inside_none (by_rows n) c.args.ring.now c.if-count-eq0.true) (sym (unflipped _));
     }
 
 pub loop-k-init : goal.loop-k-init
 loop-k-init c = (
   omega arith,
-  c.requires,
+  c.told-cells,
   c.lines_below-below_b.ensures,
   λ n h. flips_start (by_rows n) c.args.ring.now (get_or c.args.cells.now n false) (omega arith),
 )
-
-pub lines_below-below_a-requires : goal.lines_below-below_a-requires
-lines_below-below_a-requires c = c.loop-k.invariant.2.most
-
-pub flip_edge-requires : goal.flip_edge-requires
-flip_edge-requires c =
-    (c.lines_below-below_a.ensures, c.loop-k.invariant.2, c.loop-k.invariant.1)
 
 pub loop-k-preserved : goal.loop-k-preserved
 loop-k-preserved c =
