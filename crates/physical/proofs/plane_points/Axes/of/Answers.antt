@@ -1,9 +1,9 @@
--- `physical::plane_points::axes_of` meets its contract: each of its three places is three of the plane's nine numbers.
+-- `physical::plane_points::Axes::of` meets its contract: each of its three places is three of the plane's nine numbers.
 use mathlib.Core.Path.{refl, ◌∙◌}
 use native.Mathlib.Omega.{arith}
 use Rattle.physical.specs.Stages.{axes_of}
 use Rattle.physical.proofs.PlaneNumbers.{place_among}
-use Rattle.physical.proofs.plane_points.axes_of.Goals as goal
+use Rattle.physical.proofs.plane_points.Axes.of.Goals as goal
 
 pub returns : goal.returns
 unfolding axes_of

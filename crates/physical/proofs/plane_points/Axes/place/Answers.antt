@@ -1,7 +1,7 @@
--- `physical::plane_points::on_axes` is `on_axes_of`: each coordinate by the contract of `reach`.
+-- `physical::plane_points::Axes::place` is `on_axes_of`: each coordinate by the contract of `reach`.
 use Rattle.physical.specs.Plane.{on_axes}
 use Rattle.physical.specs.Stages.{on_axes_of}
-use Rattle.physical.proofs.plane_points.on_axes.Goals as goal
+use Rattle.physical.proofs.plane_points.Axes.place.Goals as goal
 
 pub returns : goal.returns
 unfolding on_axes_of on_axes
