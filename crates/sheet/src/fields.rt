@@ -25,6 +25,11 @@ pub const MOST_NUMBERS: usize = 4352;
 // Those of a sheet of at most 16 coedges, as nearly every face's is.
 pub const SMALL_NUMBERS: usize = 544;
 
+// How many points a sheet has at most, and one of at most 16 coedges, as nearly every face's is.
+pub const MOST_POINTS: usize = 2176;
+
+pub const SMALL_POINTS: usize = 272;
+
 // The byte at a place; 0 past the end.
 pub fn byte_at(s: &[u8], at: usize) -> u8
     ensures { result ≡ get_or s.now at 0 }
