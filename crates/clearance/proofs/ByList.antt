@@ -15,7 +15,7 @@ use Rattle.clearance.proofs.ByKeys.{copy_key}
 module _ (period : Float) (p : Point) where
   -- ---- one ring
 
-  ring_by_list : (periodic : Bool) (k : Float) (ss : List Segment) → foldl (λ (d : Float) (s : Segment). smaller_of d (copy_key periodic period p s)) k ss ≡ least_key p k (copies_at periodic period p.u (map (laid periodic period) ss))
+  ring_by_list : (periodic : Bool) (k : Float) (ss : List Segment) → foldl (λ (d : Float) (s : Segment). smaller_of d (copy_key period p s)) k ss ≡ least_key p k (copies_at period p.u (map (laid period) ss))
   unfolding least_key copies_at copy laid
   ring_by_list true k ss =
       sym (foldl-map (laid true period) (λ (d : Float) (s : Segment). smaller_of d (key_to p (shifted_to period p.u s))) ss k)
@@ -24,7 +24,7 @@ module _ (period : Float) (p : Point) where
 
   -- ---- two lists, one behind the other
 
-  copies_append : (periodic : Bool) (u : Float) (ss ts : List Segment) → copies_at periodic period u (ss ++ ts) ≡ copies_at periodic period u ss ++ copies_at periodic period u ts
+  copies_append : (periodic : Bool) (u : Float) (ss ts : List Segment) → copies_at period u (ss ++ ts) ≡ copies_at period u ss ++ copies_at period u ts
   unfolding copies_at
   copies_append true u ss ts = map-append (shifted_to period u) ss ts
   copies_append false u ss ts = refl
@@ -35,15 +35,15 @@ module _ (period : Float) (p : Point) where
 
   -- ---- all rings
 
-  pub nearest_by_list : (periodic : Bool) (k : Float) (rings : List (List Point)) → foldl (least_of (copy_key periodic period p)) k rings ≡ least_key p k (copies_at periodic period p.u (laid_rings periodic period rings))
+  pub nearest_by_list : (periodic : Bool) (k : Float) (rings : List (List Point)) → foldl (least_of (copy_key period p)) k rings ≡ least_key p k (copies_at period p.u (laid_rings period rings))
   unfolding laid_rings flat_map least_of
   nearest_by_list true k [] = unfold least_key copies_at in refl
   nearest_by_list false k [] = unfold least_key copies_at in refl
   nearest_by_list periodic k (ring ∷ rings) =
-      let at = copies_at periodic period p.u in
-      let first = map (laid periodic period) (segments ring) in
-      let rest = laid_rings periodic period rings in
-      nearest_by_list periodic (least_of (copy_key periodic period p) k ring) rings
+      let at = copies_at period p.u in
+      let first = map (laid period) (segments ring) in
+      let rest = laid_rings period rings in
+      nearest_by_list periodic (least_of (copy_key period p) k ring) rings
       ∙ ap (λ (l : Float). least_key p l (at rest)) (ring_by_list periodic k (segments ring))
       ∙ sym (least_append k (at first) (at rest))
       ∙ ap (least_key p k) (sym (copies_append periodic p.u first rest))

@@ -2,20 +2,25 @@
 -- and an end that is the same at two columns, and not at 0, is the same at every column between (`moved_squeeze` of the
 -- rings' laws).
 use mathlib.Core.Path.{◌≡◌, ap, ap₂, ◌∙◌}
-use mathlib.Core.Bool.{true, not}
-use Prim.Native.Nat.{ℕ}
+use mathlib.Core.Bool.{Bool, true, not}
+use Prim.Native.Nat.{ℕ, ◌≤◌}
+use native.Mathlib.Omega.{arith}
 use lib.Dec.{T}
 use lib.Ieee.{Float, eq}
 use lib.Ieee.Fits.{and_l, and_r}
 use lib.Ieee.Positive.{positive}
 use lib.Ieee.Scale.{finite}
+use Rattle.std.proofs.Common.{Option, Some, None}
+use Rattle.std.specs.Option.{unwrap_or}
 use Rattle.leaves.specs.Constants.{plus_zero, greatest_finite}
 use Rattle.answers.specs.Limits.{beyond}
 use Rattle.sheet.specs.Content.{point}
 use Rattle.points.specs.Segments.{middle, segment}
+use Rattle.points.specs.Columns.{columns_ahead, FirstHeld}
 use Rattle.points.specs.Grid.{part}
 use Rattle.points.specs.Turns.{keeps_order}
 use Rattle.points.proofs.ColumnOrder.{finite_of, holds, numbers as order_numbers, part_up}
+use Rattle.points.proofs.Halving.{column_found}
 use Rattle.points.proofs.WholeTurns.{moved_squeeze}
 use Rattle.search.specs.Copies.{ends_at, same_ends, regular, Serves}
 use Rattle.clearance.specs.Clearance.{shifted_to}
@@ -65,3 +70,14 @@ module _ (period a b : Float) (reg : regular period a b ≡ true) where
       ap₂ (λ (p q : Float). segment (point p v) (point q w))
       (moved_squeeze period mid a n.above n.centre n.start (part i) (part m) (part t) (part_up i m h) (part_up m t k) (and_l (eq x.a y.a) _ s) (and_l (not (eq x.a plus_zero)) _ s₂))
       (moved_squeeze period mid b n.above n.centre n.end (part i) (part m) (part t) (part_up i m h) (part_up m t k) (and_l (eq x.b y.b) _ s₁) (and_r (not (eq x.a plus_zero)) _ s₂))
+
+  -- up to the column that is found by halves, or to i itself
+  module _ (answers : ℕ → Bool → Type 0) (i : ℕ) (low : i ≤ 31) (same : (m : ℕ) → answers m true → same_ends (ends_at period (part i) a b) (ends_at period (part m) a b) ≡ true) where
+    pub served_to : (found : Option ℕ) → FirstHeld answers (columns_ahead i) found → (t : ℕ) → t ≡ unwrap_or found i → (i ≤ t) × Serves period i t a b
+    served_to (Some m) h t e =
+        let there = column_found answers i m low h in
+        let up : i ≤ t = omega (arith, there.up) in
+        (up, rw e (served_between i m (same m there.held)))
+    served_to None h t e =
+        let up : i ≤ t = omega arith in
+        (up, λ v w m k l. let at : m ≡ i = omega arith in rw at)

@@ -75,20 +75,7 @@ fn served(period: f64, i: u32, ends: CopyEnds, a_u: f64, b_u: f64) -> u32
     if !is_regular(period, a_u, b_u) {
         return i;
     }
-    if is_served(period, ends, 31, a_u, b_u) {
-        return 31;
-    }
-    let mut step: u32 = 16;
-    while 0 < step {
-        let m = i + step;
-        if m < 31 {
-            if is_served(period, ends, m, a_u, b_u) {
-                return m;
-            }
-        }
-        step /= 2;
-    }
-    i
+    points::column_ahead(i, |m| is_served(period, ends, m, a_u, b_u)).unwrap_or(i)
 }
 
 // The copy of a segment at column i, in its four places: left as it is where it still serves, else worked
