@@ -2,7 +2,7 @@
 -- to a list of rings, is the hypotenuse of the least key,
 -- since keys order as hypotenuses do. Such a distance is never -0. In the chart the key is the residual's.
 use mathlib.Core.Path.{◌≡◌, refl, sym, ap, ◌∙◌, fun_ext}
-use mathlib.Core.Bool.{Bool}
+use Rattle.std.proofs.Common.{Option}
 use mathlib.Core.List.{List, [], ◌∷◌, foldl, map, foldl-map}
 use lib.Ieee.{Float, binary64}
 use Rattle.leaves.specs.Bounds.{smaller_of}

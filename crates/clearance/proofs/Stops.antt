@@ -3,9 +3,11 @@
 use mathlib.Core.Path.{◌≡◌, refl, sym, ap, ◌∙◌, subst}
 use mathlib.Core.Bool.{Bool, true, false, not, cond}
 use mathlib.Core.List.{List, [], ◌∷◌}
-use Prim.Native.Nat.{ℕ, zero, suc}
+use Prim.Native.Nat.{ℕ, zero, suc, ◌<◌}
+use native.Mathlib.Omega.{arith}
 use lib.Dec.{T}
 use lib.Ieee.{Float, inf, binary64, lt, le, fits, is_nan}
+use lib.ListN.{length, get_or}
 use Rattle.leaves.specs.Bounds.{smaller_of, larger_of}
 use Rattle.leaves.proofs.Choices.{smaller_by_test, smaller_le_first, smaller_le_second, smaller_number, larger_by_test}
 use Rattle.leaves.specs.Keys.{Key}
@@ -91,3 +93,9 @@ module _ (p : Point) where
 
   pub stopped : (bar : Float) (k : ℕ) (ss : List Segment) → fits binary64 bar ≡ true → stops_at p bar k ss ≡ true → bar ≡ larger_of bar (least_key p (inf false) ss)
   stopped bar k ss fit e = sym (larger_stays bar (least_key p (inf false) ss) (least_le_bar bar (holds (fits binary64 bar) fit) ss k e (inf false) inf_key inf_number))
+
+  pub stops_here : (bar key : Float) (s : Segment) (ss : List Segment) (k : ℕ) → k < length ss → key ≡ key_to p (get_or ss k s) → le key bar ≡ true → stops_at p bar k ss ≡ true
+  unfolding stops_at
+  stops_here bar key s [] k h is near = absurd (omega arith)
+  stops_here bar key s (t ∷ ts) zero h is near = rw (← is) near
+  stops_here bar key s (t ∷ ts) (suc k) h is near = stops_here bar key s ts k (omega arith) is near

@@ -21,6 +21,7 @@ pub struct Near {
 }
 
 // Whether there is a segment in place k whose key is not above `bar`.
+#[tactic(auto, unfolding(crate::specs::Nearest::stops_at))]
 fn stops(p: Point, bar: f64, k: usize, list: &[Segment]) -> bool
     ensures { result ≡ stops_at p bar k list.now }
 {

@@ -6,6 +6,7 @@ use points::Segment;
 use sheet::Point;
 
 // The key of the distance from the point to the segment.
+#[tactic(auto, unfolding(crate::specs::Nearest::key_to, crate::specs::Clearance::residual, crate::specs::Clearance::delta, crate::specs::Clearance::along, crate::specs::Clearance::dot_of))]
 pub(crate) fn straight_key(p: Point, s: Segment) -> f64
     ensures { result ≡ key_to p s }
 {
@@ -13,7 +14,11 @@ pub(crate) fn straight_key(p: Point, s: Segment) -> f64
     let d_v = s.b.v - s.a.v;
     let length = d_u * d_u + d_v * d_v;
     let t = if 0.0 < length {
-        leaves::clamp(((p.u - s.a.u) * d_u + (p.v - s.a.v) * d_v) / length, 0.0, 1.0)
+        leaves::clamp(
+            ((p.u - s.a.u) * d_u + (p.v - s.a.v) * d_v) / length,
+            0.0,
+            1.0,
+        )
     } else {
         0.0
     };
