@@ -7,4 +7,4 @@ mod segment_list;
 mod straight;
 
 pub use nearest::{Near, nearest as nearest_of};
-pub use segment_list::{MOST_SEGMENTS, SMALL_SEGMENTS, lay};
+pub use segment_list::{MOST_SEGMENTS, NO_SEGMENT, SMALL_SEGMENTS, lay};

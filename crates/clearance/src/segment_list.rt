@@ -14,6 +14,12 @@ pub const MOST_SEGMENTS: usize = 2176;
 // that little is cleared.
 pub const SMALL_SEGMENTS: usize = 272;
 
+// What stands in a list before its segments do.
+pub const NO_SEGMENT: Segment = Segment {
+    a: Point { u: 0.0, v: 0.0 },
+    b: Point { u: 0.0, v: 0.0 },
+};
+
 // The segment as it is laid: on a periodic chart its end moved by whole turns to be near its start.
 #[tactic(auto, unfolding(crate::specs::Clearance::laid, points::specs::Segments::gained))]
 fn laid(period: Option<f64>, s: Segment) -> Segment
