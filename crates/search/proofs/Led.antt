@@ -10,6 +10,7 @@ use Rattle.leaves.specs.Hypot.{hypot_of_key}
 use Rattle.leaves.proofs.Choices.{larger_by_test, larger_keeps}
 use Rattle.leaves.specs.Keys.{Key}
 use Rattle.leaves.proofs.Hypotenuses.{inf_key, larger_hypot}
+use Rattle.sheet.specs.Content.{Point}
 use Rattle.points.specs.Grid.{grid_point}
 use Rattle.points.specs.Segments.{Segment}
 use Rattle.clearance.specs.Nearest.{least_key}
@@ -39,7 +40,10 @@ module _ (i j : ℕ) (ss : List Segment) (best : Candidate) (bar : Float) (bar_k
   least_is_key : Key least
   least_is_key = least_key_lem (grid_point i j) ss (inf false) inf_key
 
-  module _ (key : Float) (is : key ≡ larger_of bar least) where
+  module _ (p : Point) (at : p ≡ grid_point i j) (key : Float) (near : key ≡ larger_of bar (least_key p (inf false) ss)) where
+    is : key ≡ larger_of bar least
+    is = near ∙ ap (λ (q : Point). larger_of bar (least_key q (inf false) ss)) at
+
     pub same_or_above : lt bar key ≡ false → key ≡ bar
     same_or_above h = is ∙ not_above_first bar least (sym (ap (lt bar) is) ∙ h)
 

@@ -7,20 +7,19 @@ pub raised-requires : goal.raised-requires
 raised-requires c =
     let x = c.args in
     let l = x.self in
-    same_or_above x.i x.j x.list.now l.best l.key l.is_key l.clearance_is c.nearest-near.result.key (rw (← c.grid_point.ensures) c.nearest-near.ensures)
+    same_or_above x.i x.j x.list.now l.best l.key l.is_key l.clearance_is _ c.grid_point.ensures _ c.nearest-near.ensures
 
 pub invariant_of-result : goal.invariant_of-result
 invariant_of-result c =
     let x = c.args in
     let l = x.self in
-    let is = rw c.grid_point.ensures at c.nearest-near.ensures in
     record {
-      is_key = met_key x.i x.j x.list.now l.best l.key l.is_key l.clearance_is c.nearest-near.result.key is;
-      clearance_is = met_clearance x.i x.j x.list.now l.best l.key l.is_key l.clearance_is c.nearest-near.result.key is c.raised.result c.raised.ensures c.visited.result c.visited.ensures;
+      is_key = met_key x.i x.j x.list.now l.best l.key l.is_key l.clearance_is _ c.grid_point.ensures _ c.nearest-near.ensures;
+      clearance_is = met_clearance x.i x.j x.list.now l.best l.key l.is_key l.clearance_is _ c.grid_point.ensures _ c.nearest-near.ensures _ c.raised.ensures _ c.visited.ensures;
     }
 
 pub returns : goal.returns
 returns c =
     let x = c.args in
     let l = x.self in
-    met_candidate x.i x.j x.list.now l.best l.key l.is_key l.clearance_is c.nearest-near.result.key (rw (← c.grid_point.ensures) c.nearest-near.ensures) c.raised.result c.raised.ensures c.visited.result c.visited.ensures
+    met_candidate x.i x.j x.list.now l.best l.key l.is_key l.clearance_is _ c.grid_point.ensures _ c.nearest-near.ensures _ c.raised.ensures _ c.visited.ensures
