@@ -2,7 +2,7 @@
 -- to a list of rings, is the hypotenuse of the least key,
 -- since keys order as hypotenuses do. Such a distance is never -0. In the chart the key is the residual's.
 use mathlib.Core.Path.{◌≡◌, refl, sym, ap, ◌∙◌, fun_ext}
-use mathlib.Core.Bool.{Bool}
+use Rattle.std.proofs.Common.{Option}
 use mathlib.Core.List.{List, [], ◌∷◌, foldl, map, foldl-map}
 use lib.Ieee.{Float, binary64}
 use Rattle.leaves.specs.Bounds.{smaller_of}
@@ -47,25 +47,25 @@ module _ {A : Type 0} (key : Between A → Float) (keyed : (s : Between A) → K
 
 -- ---- in the chart
 
-module _ (periodic : Bool) (period : Float) (p : Point) where
+module _ (period : Option Float) (p : Point) where
   -- the key of the distance to a segment's copy
   abbrev pub copy_key : Segment → Float
-  copy_key s = key_to p (copy periodic period p s)
+  copy_key s = key_to p (copy period p s)
 
   copy_key_lem : (s : Segment) → Key (copy_key s)
   unfolding key_to
-  copy_key_lem s = key_is (residual p (copy periodic period p s)).u (residual p (copy periodic period p s)).v
+  copy_key_lem s = key_is (residual p (copy period p s)).u (residual p (copy period p s)).v
 
-  distance_by_key : distance periodic period p ≡ (λ (s : Segment). hypot_of_key (copy_key s))
+  distance_by_key : distance period p ≡ (λ (s : Segment). hypot_of_key (copy_key s))
   unfolding distance key_to
-  distance_by_key = fun_ext (λ s. hypot_by_key (residual p (copy periodic period p s)).u (residual p (copy periodic period p s)).v)
+  distance_by_key = fun_ext (λ s. hypot_by_key (residual p (copy period p s)).u (residual p (copy period p s)).v)
 
-  pub distance_clear : (s : Segment) → Clear binary64 (distance periodic period p s)
+  pub distance_clear : (s : Segment) → Clear binary64 (distance period p s)
   unfolding distance
-  distance_clear s = hypot_clear (residual p (copy periodic period p s)).u (residual p (copy periodic period p s)).v
+  distance_clear s = hypot_clear (residual p (copy period p s)).u (residual p (copy period p s)).v
 
   pub nearer_by_key : (k : Float) (rings : List (List Point)) → Key k
-      → foldl (nearer periodic period p) (hypot_of_key k) rings ≡ hypot_of_key (foldl (least_of copy_key) k rings)
+      → foldl (nearer period p) (hypot_of_key k) rings ≡ hypot_of_key (foldl (least_of copy_key) k rings)
   unfolding nearer
   nearer_by_key k rings h =
       ap (λ (d : Segment → Float). foldl (least_of d) (hypot_of_key k) rings) distance_by_key ∙ nearest_by_key copy_key copy_key_lem k rings h

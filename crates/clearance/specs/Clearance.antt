@@ -1,6 +1,6 @@
 -- Document 01, "Chart", rule 8: the distance of a point to a segment, and the least of them over a ring.
 -- SegmentLists and Nearest have the second form of it that the code works by, on one list of segments and by keys.
-use Rattle.std.specs.Prelude.{Bool, true, false, cond, Float}
+use Rattle.std.specs.Prelude.{cond, Option, Some, None, Float}
 use mathlib.Core.List.{List, foldl}
 use Rattle.std.specs.Float.{binary64}
 use Rattle.std.specs.Float.Ieee.{add, sub, mul, div, lt}
@@ -11,13 +11,13 @@ use Rattle.sheet.specs.Content.{Point, point}
 use Rattle.points.specs.Segments.{gained, middle, Between, Segment, segment, segments}
 use Rattle.points.specs.Turns.{turns}
 
--- ---- "Periodic: b moves as in 7, then both by round((p.u − (a.u + b.u)/2)/P) × P"
+-- ---- "Periodic: b moves as in 7, then both by round((p.u − (a.u + b.u)/2)/P) × P"; a chart that is not periodic has no P
 
 -- "b moves as in 7"
-unfoldable pub laid : Bool → Float → Segment → Segment
+unfoldable pub laid : Option Float → Segment → Segment
 unfolding gained
-laid true period s = segment s.a (point (gained period s) s.b.v)
-laid false period s = s
+laid (Some period) s = segment s.a (point (gained period s) s.b.v)
+laid None s = s
 
 -- "then both", of a segment whose b has moved, for the points at u
 unfoldable pub shifted_to : Float → Float → Segment → Segment
@@ -26,10 +26,10 @@ shifted_to period u s =
     segment (point (add binary64 s.a.u (turns (sub binary64 u (middle s.a.u s.b.u)) period)) s.a.v)
     (point (add binary64 s.b.u (turns (sub binary64 u (middle s.a.u s.b.u)) period)) s.b.v)
 
-unfoldable pub copy : Bool → Float → Point → Segment → Segment
+unfoldable pub copy : Option Float → Point → Segment → Segment
 unfolding shifted_to laid
-copy true period p s = shifted_to period p.u (laid true period s)
-copy false period p s = s
+copy (Some period) p s = shifted_to period p.u (laid (Some period) s)
+copy None p s = s
 
 -- ---- "d = b − a; t = ((p − a)·d / d·d) clamped to 0..1, 0 if d·d is 0; hypot of p − a − t×d"
 
@@ -54,9 +54,9 @@ unfolding sub mul along delta
 residual p s =
     point (sub binary64 (sub binary64 p.u s.a.u) (mul binary64 (along p s) (delta s).u)) (sub binary64 (sub binary64 p.v s.a.v) (mul binary64 (along p s) (delta s).v))
 
-unfoldable pub distance : Bool → Float → Point → Segment → Float
+unfoldable pub distance : Option Float → Point → Segment → Float
 unfolding residual copy
-distance periodic period p s = hypot_of (residual p (copy periodic period p s)).u (residual p (copy periodic period p s)).v
+distance period p s = hypot_of (residual p (copy period p s)).u (residual p (copy period p s)).v
 
 -- ---- "Clearance: least distance to a segment": the least of `so far` and the distances to the segments of one ring
 
@@ -64,6 +64,6 @@ unfoldable pub least_of : {A : Type 0} → (Between A → Float) → Float → L
 unfolding segments
 least_of {A} distance so_far ring = foldl (λ (d : Float) (s : Between A). smaller_of d (distance s)) so_far (segments ring)
 
-unfoldable pub nearer : Bool → Float → Point → Float → List Point → Float
+unfoldable pub nearer : Option Float → Point → Float → List Point → Float
 unfolding least_of distance
-nearer periodic period p so_far ring = least_of (distance periodic period p) so_far ring
+nearer period p so_far ring = least_of (distance period p) so_far ring

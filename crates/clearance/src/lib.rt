@@ -1,5 +1,5 @@
 // Rule 8: the distance of a point to segments, by the leaves' key; the root of the least is the caller's. The
-// segments of all rings stand in one list of numbers, four a segment.
+// segments of all rings stand in one list.
 #![tactic(auto)]
 
 mod nearest;
@@ -7,7 +7,4 @@ mod segment_list;
 mod straight;
 
 pub use nearest::{Near, nearest as nearest_of};
-pub use segment_list::{
-    MOST_SEGMENT_NUMBERS, MOST_SEGMENTS, NUMBERS, SMALL_SEGMENT_NUMBERS, SMALL_SEGMENTS, lay,
-    put as put_segment,
-};
+pub use segment_list::{MOST_SEGMENTS, NO_SEGMENT, SMALL_SEGMENTS, lay};

@@ -1,4 +1,3 @@
 pub mod Search
 pub mod Chosen
-pub mod Leading
 pub mod Copies

@@ -13,25 +13,24 @@ pub struct Candidate {
     pub count: u32,
 }
 
-// The candidate after the covered grid point (i, j) of clearance d: replaced where d is greater, and
-// one more counted.
-pub(crate) fn visited(best: Candidate, i: u32, j: u32, d: f64) -> Candidate
-    requires { best.count < 1000 }
-    ensures { result ≡ counted (better i j d best) }
-{
-    if best.clearance < d {
-        Candidate {
-            u: part(i),
-            v: part(j),
-            clearance: d,
-            count: best.count + 1,
-        }
-    } else {
-        Candidate {
-            u: best.u,
-            v: best.v,
-            clearance: best.clearance,
-            count: best.count + 1,
+impl Candidate {
+    // The candidate after the covered grid point (i, j) of clearance d: replaced where d is greater, and
+    // one more counted.
+    #[tactic(auto, unfolding(crate::specs::Search::counted, crate::specs::Search::better))]
+    pub(crate) fn visited(self, i: u32, j: u32, d: f64) -> Candidate
+        requires { self.count < 1000 }
+        ensures { result ≡ counted (better i j d self) }
+    {
+        let count = self.count + 1;
+        if self.clearance < d {
+            Candidate {
+                u: part(i),
+                v: part(j),
+                clearance: d,
+                count,
+            }
+        } else {
+            Candidate { count, ..self }
         }
     }
 }

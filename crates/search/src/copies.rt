@@ -2,135 +2,102 @@
 // (rule 8). A segment's turns go up with the column, so a copy that is the same at two columns is the same
 // between them. It is worked out once and serves up to a column that was asked; in all a segment has one
 // copy or two.
-ghost use Rattle.std.specs.Prelude.{◌≡◌, map, ◌+◌, ◌/◌, ◌≤◌, length};
-ghost use Rattle.sheet.specs.Content.{point};
+ghost use Rattle.std.specs.Prelude.{◌≡◌, map, ◌+◌, ◌≤◌, length};
 ghost use Rattle.points.specs.Grid.{part as part_of};
-ghost use Rattle.points.specs.Segments.{segment};
-ghost use Rattle.search.specs.Copies.{ends_at, regular, same_ends, Serving, Serves, Ready};
+ghost use Rattle.search.specs.Copies.{same, same_ends, regular, Serving, Ready};
 ghost use Rattle.clearance.specs.Clearance.{shifted_to};
-ghost use Rattle.clearance.specs.SegmentLists.{segments_in, segment_at};
 
-use clearance::{NUMBERS, put_segment};
 use points::{Segment, part};
 use sheet::Point;
 
-// The u of a copy's two ends.
-#[derive(Clone, Copy)]
-pub(crate) struct CopyEnds {
-    pub a: f64,
-    pub b: f64,
-}
-
-// The ends of the copy at u.
-fn ends_at(period: f64, u: f64, a_u: f64, b_u: f64) -> CopyEnds
-    ensures { (result.a ≡ (shifted_to period u (segment (point a_u a_u) (point b_u b_u))).a.u) × (result.b ≡ (shifted_to period u (segment (point a_u a_u) (point b_u b_u))).b.u) }
+// The segment's copy for the points at u.
+#[tactic(auto, unfolding(clearance::specs::Clearance::shifted_to))]
+fn copy_at(period: f64, u: f64, s: Segment) -> Segment
+    ensures { result ≡ shifted_to period u s }
 {
-    let offset = points::whole_turns(u - (a_u + b_u) / 2.0, period);
-    CopyEnds {
-        a: a_u + offset,
-        b: b_u + offset,
+    let offset = points::whole_turns(u - (s.a.u + s.b.u) / 2.0, period);
+    Segment {
+        a: Point {
+            u: s.a.u + offset,
+            ..s.a
+        },
+        b: Point {
+            u: s.b.u + offset,
+            ..s.b
+        },
     }
 }
 
-// Whether two copies have the same ends, and none at 0, where a sign would not show.
-fn are_same(x: CopyEnds, y: CopyEnds) -> bool
+// Whether x and y are the same, and not 0, where a sign would not show.
+#[tactic(auto, unfolding(crate::specs::Copies::same))]
+fn is_same(x: f64, y: f64) -> bool
+    ensures { result ≡ same x y }
+{
+    x == y && x != 0.0
+}
+
+// Whether two copies of a segment have the same ends.
+#[tactic(auto, unfolding(crate::specs::Copies::same_ends))]
+fn are_same(x: Segment, y: Segment) -> bool
     ensures { result ≡ same_ends x y }
 {
-    if x.a == y.a {
-        if x.b == y.b {
-            if x.a == 0.0 {
-                return false;
-            }
-            return !(x.b == 0.0);
-        }
-    }
-    false
+    is_same(x.a.u, y.a.u) && is_same(x.b.u, y.b.u)
 }
 
 // Whether both ends go up with the column: the turns do, and the ends are numbers.
-fn is_regular(period: f64, a_u: f64, b_u: f64) -> bool
-    ensures { result ≡ regular period a_u b_u }
+#[tactic(auto, unfolding(crate::specs::Copies::regular))]
+fn is_regular(period: f64, s: Segment) -> bool
+    ensures { result ≡ regular period s }
 {
-    if points::keeps_order(period, (a_u + b_u) / 2.0) {
-        if points::is_number(a_u) {
-            return points::is_number(b_u);
-        }
-    }
-    false
+    points::keeps_order(period, (s.a.u + s.b.u) / 2.0)
+        && points::is_number(s.a.u)
+        && points::is_number(s.b.u)
 }
 
-// Whether a copy with these ends is the one at column m.
-fn is_served(period: f64, ends: CopyEnds, m: u32, a_u: f64, b_u: f64) -> bool
-    ensures { result ≡ same_ends ends (ends_at period (part_of m) a_u b_u) }
+// Whether this copy is the one at column m.
+fn is_served(period: f64, copy: Segment, m: u32, s: Segment) -> bool
+    ensures { result ≡ same_ends copy (shifted_to period (part_of m) s) }
 {
-    are_same(ends, ends_at(period, part(m), a_u, b_u))
+    are_same(copy, copy_at(period, part(m), s))
 }
 
-// A column from i on up to which the copy at column i, which has these ends, serves: the last one, or one
-// that is found by halves.
-fn served(period: f64, i: u32, ends: CopyEnds, a_u: f64, b_u: f64) -> u32
-    requires { (1 ≤ i) × (i ≤ 31) × (ends ≡ ends_at period (part_of i) a_u b_u) }
-    ensures { (i ≤ result) × Serves period i result a_u b_u }
+// A column from i on up to which this copy, the one at column i, serves: the last one, or one that is found by halves.
+fn served(period: f64, i: u32, copy: Segment, s: Segment) -> u32
+    requires { (i ≤ 31) × (copy ≡ shifted_to period (part_of i) s) }
+    ensures { (i ≤ result) × Serving period i result s copy }
 {
-    if !is_regular(period, a_u, b_u) {
-        return i;
+    if is_regular(period, s) {
+        points::column_ahead(i, |m| is_served(period, copy, m, s)).unwrap_or(i)
+    } else {
+        i
     }
-    if is_served(period, ends, 31, a_u, b_u) {
-        return 31;
-    }
-    let mut step: u32 = 16;
-    while 0 < step {
-        let m = i + step;
-        if m < 31 {
-            if is_served(period, ends, m, a_u, b_u) {
-                return m;
-            }
-        }
-        step /= 2;
-    }
-    i
 }
 
-// The copy of a segment at column i, in its four places: left as it is where it still serves, else worked
-// out. It answers a column up to which it serves.
-fn renew_one(period: f64, i: u32, s: Segment, until: u32, copy: &mut [f64]) -> u32
-    requires { (1 ≤ i) × (i ≤ 31) × (length copy.old ≡ 4) × Serving period i until s (segment_at copy.old 0) }
-    ensures { (i ≤ result) × Serving period i result s (segment_at copy.new 0) }
+// The copy of a segment at column i: left as it is where it still serves, else worked out. `until` is a column up to
+// which it serves.
+fn renew_one(period: f64, i: u32, s: Segment, until: &mut u32, copy: &mut Segment)
+    requires { (i ≤ 31) × Serving period i until.old s copy.old }
+    ensures { (i ≤ until.new) × Serving period i until.new s copy.new }
 {
-    if i <= until {
-        return until;
+    if *until < i {
+        *copy = copy_at(period, part(i), s);
+        *until = served(period, i, *copy, s);
     }
-    let a_u = s.a.u;
-    let b_u = s.b.u;
-    let ends = ends_at(period, part(i), a_u, b_u);
-    put_segment(ends.a, s.a.v, ends.b, s.b.v, copy);
-    served(period, i, ends, a_u, b_u)
 }
 
-// The copies of all segments at column i, over those of the column before.
-pub(crate) fn renew(period: f64, i: u32, list: &[f64], until: &mut [u32], copies: &mut [f64])
-    requires { (1 ≤ i) × (i ≤ 31) × (length list.now ≡ length copies.old) × (length list.now / 4 ≤ length until.old) × Ready period i list.now until.old copies.old }
-    ensures { (segments_in copies.new ≡ map (shifted_to period (part_of i)) (segments_in list.now)) × Ready period (i + 1) list.now until.new copies.new }
+// The copies of all segments at column i, over those of the column before. The search measures from a list of segments,
+// so the columns up to which the copies serve are no part of it, and stand in a list of their own.
+pub(crate) fn renew(
+    period: f64,
+    i: u32,
+    list: &[Segment],
+    until: &mut [u32],
+    copies: &mut [Segment],
+)
+    requires { (i ≤ 31) × (length list.now ≡ length copies.old) × (length list.now ≤ length until.old) × Ready period i list.now until.old copies.old }
+    ensures { (copies.new ≡ map (shifted_to period (part_of i)) list.now) × Ready period (i + 1) list.now until.new copies.new }
 {
-    let count = list.len() / NUMBERS;
-    let mut k = 0;
-    while k < count {
-        let from = NUMBERS * k;
-        let to = from + NUMBERS;
-        let a_u = list[from];
-        let a_v = list[from + 1];
-        let b_u = list[from + 2];
-        let b_v = list[from + 3];
-        until[k] = renew_one(
-            period,
-            i,
-            Segment {
-                a: Point { u: a_u, v: a_v },
-                b: Point { u: b_u, v: b_v },
-            },
-            until[k],
-            &mut copies[from..to],
-        );
-        k += 1;
+    for (k, s) in list.iter().enumerate() {
+        renew_one(period, i, *s, &mut until[k], &mut copies[k]);
     }
 }

@@ -1,16 +1,9 @@
 use mathlib.Core.Path.{◌≡◌}
 use mathlib.Core.Bool.{false}
-use Prim.Native.Nat.{◌-◌, ◌≤◌}
 use lib.Ieee.{inf}
-use Rattle.sheet.specs.Content.{point}
+use lib.ListN.{drop}
 use Rattle.clearance.specs.Nearest.{least_key}
-use Rattle.clearance.specs.SegmentLists.{segments_in}
-use Rattle.clearance.proofs.Stops.{least_from}
 use Rattle.clearance.proofs.nearest.scan.Given as goal
 
 abbrev pub invariant-loop-k : goal.invariant-loop-k
-invariant-loop-k l =
-    (l.k ≤ l.count) × (least_from (point l.u l.v) l.list l.least l.k ≡ least_key (point l.u l.v) (inf false) (segments_in l.list))
-
-abbrev pub decreases-loop-k : goal.decreases-loop-k
-decreases-loop-k l = l.count - l.k
+invariant-loop-k l = least_key l.p l.least (drop l.k l.list) ≡ least_key l.p (inf false) l.list

@@ -1,62 +1,35 @@
--- `clearance::segment_list::lay` writes the ring's segments over the front of the list. The loop's invariant: those up
--- to the point a, which stands before place k, are written. A turn writes one; the closing one comes after the loop.
-use mathlib.Core.Path.{◌∙◌}
-use mathlib.Core.List.{[], ◌∷◌}
-use Prim.Native.Nat.{◌+◌}
-use native.Mathlib.Omega.{arith}
-use Rattle.sheet.specs.Content.{point}
-use Rattle.points.specs.Segments.{segment}
-use Rattle.points.proofs.InPlace.{none_written}
-use Rattle.points.proofs.Walk.{point_at, walk_step, left, left_start, left_end}
+-- `clearance::segment_list::lay` writes the ring's segments over the front of the list. The loop's invariant: those that
+-- the iterator has given are written.
+use Rattle.std.proofs.Common.{sym, ap, arith, map, length, inl}
+use Rattle.std.proofs.lemmas.List.{length-append, length-map}
+use Rattle.answers.proofs.Over.{over_short}
+use Rattle.points.proofs.InPlace.{item_written, over_written}
+use Rattle.points.proofs.RingFolds.{segments_count}
 use Rattle.clearance.specs.Clearance.{laid}
-use Rattle.clearance.proofs.Laying.{laid_more, laid_all, unlaid, none_laid, part_room, put_all, put_is}
 use Rattle.clearance.proofs.segment_list.lay.Goals as goal
 
-pub returns-then-list-count : goal.returns-then-list-count
-returns-then-list-count c = let x = c.args in unlaid (laid x.periodic x.period) x.ring.now x.list.now c.if-list-count.true
+pub returns-then-list-ring : goal.returns-then-list-ring
+returns-then-list-ring c = sym (over_short _ c.args.list.now (simp (length-map, segments_count) (omega arith)))
 
-pub returns-then-count-eq0 : goal.returns-then-count-eq0
-returns-then-count-eq0 c = let x = c.args in none_laid (laid x.periodic x.period) x.ring.now x.list.now c.if-count-eq0.true
+pub loop-k-init-derived : goal.loop-k-init-derived
+loop-k-init-derived c =
+    let e = c.enumerate-k-items.ensures in
+    ((tt, tt, inl (rw (c.into_iter-k-iterator.ensures.into_iter_gives, e.source, e.count, c.segments.ensures, segments_count) (omega arith))), tt)
 
-pub loop-k-init : goal.loop-k-init
-loop-k-init c =
-    let x = c.args in
-    let f = laid x.periodic x.period in
-    (omega arith, omega arith, rw (left_start x.ring.now (omega arith)) (none_written _ _))
-
-pub overflow_sub-from : goal.overflow_sub-from
-overflow_sub-from c = omega arith
+pub bounds-list-k : goal.bounds-list-k
+bounds-list-k c =
+    let s = c.in-Some.ensures.steps in
+    let w = c.loop-k.invariant in
+    omega (arith, w.count, s.1, simp (length-append, length-map, s.0, segments_count) at (ap length w.all))
 
 pub loop-k-preserved : goal.loop-k-preserved
 loop-k-preserved c =
-    let x = c.args in
-    let a = point c.loop-k.a_u c.loop-k.a_v in
-    let b = point_at x.ring.now c.loop-k.k in
-    let f = laid x.periodic x.period in (
-      omega arith,
-      omega arith,
-      laid_more f c.loop-k.k (segment a b) (left x.ring.now b (c.loop-k.k + 1)) _ c.loop-k.invariant.2 (walk_step x.ring.now (point_at x.ring.now 0 ∷ []) a c.loop-k.k (omega arith)) (omega arith) (omega arith) (put_is x.periodic x.period a b _ _ (c.put.ensures ∙ put_all _ _ (part_room _ c.loop-k.k (omega arith) (omega arith))) c.moved_end.ensures),
-    )
-
-pub overflow_mul-from-2 : goal.overflow_mul-from-2
-overflow_mul-from-2 c = omega arith
-
-pub overflow_mul-to-2 : goal.overflow_mul-to-2
-overflow_mul-to-2 c = omega arith
-
-pub slice_bounds-put-end-2 : goal.slice_bounds-put-end-2
-slice_bounds-put-end-2 c = omega arith
+    let s = c.in-Some.ensures.steps in
+    let w = c.loop-k.invariant in
+    rw (s.1, s.2, c.laid.ensures) (item_written w _ _ (ap (map (laid c.args.period)) s.0) (omega (arith, w.count, simp (length-append, length-map, s.0, segments_count) at (ap length w.all))))
 
 pub returns : goal.returns
 returns c =
-    let x = c.args in
-    let a = point c.loop-k.a_u c.loop-k.a_v in
-    let b = point_at x.ring.now 0 in
-    let f = laid x.periodic x.period in
-    laid_all f x.ring.now x.list.now c.loop-k.k
-    (laid_more f c.loop-k.k (segment a b) [] _ c.loop-k.invariant.2 (left_end x.ring.now a c.loop-k.k (omega arith)) (omega arith) (omega arith) (put_is x.periodic x.period a b _ _ (c.put-2.ensures ∙ put_all _ _ (part_room _ c.loop-k.k (omega arith) (omega arith))) c.moved_end-2.ensures))
-    (omega arith)
-    (omega arith)
-
-pub offset_bounds-list-from-2 : goal.offset_bounds-list-from-2
-offset_bounds-list-from-2 c = omega arith
+    let w = c.loop-k.invariant in
+    let n = c.in-None.ensures.steps.0.0 in
+    over_written w (ap (map (laid c.args.period)) n) (omega (arith, w.count, simp (length-append, n) at (ap length w.all))) (omega (arith, w.count, simp (length-append, length-map, n, segments_count) at (ap length w.all)))

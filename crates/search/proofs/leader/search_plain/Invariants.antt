@@ -1,16 +1,10 @@
 use mathlib.Core.Path.{◌≡◌}
 use Prim.Native.Nat.{◌-◌, ◌*◌, ◌≤◌}
-use lib.ListN.{length}
-use Rattle.search.specs.Chosen.{covered_at}
-use Rattle.search.specs.Leading.{Led}
-use Rattle.search.specs.Search.{search}
-use Rattle.search.proofs.Led.{clear_to}
-use Rattle.search.proofs.Visits.{search_from}
+use Rattle.std.proofs.Common.{None}
+use Rattle.search.specs.Chosen.{chosen_among}
+use Rattle.search.proofs.Chosen.{choice_from}
 use Rattle.search.proofs.leader.search_plain.Given as goal
 
 abbrev pub invariant-loop-i : goal.invariant-loop-i
 invariant-loop-i l =
-    (1 ≤ l.i) × (l.i ≤ 32) × (length l.hints ≡ 32) × Led l.found × (l.found.best.count ≤ (l.i - 1) * 31) × (search_from (covered_at l.covered) (clear_to l.list) l.found.best l.i ≡ search (covered_at l.covered) (clear_to l.list))
-
-abbrev pub decreases-loop-i : goal.decreases-loop-i
-decreases-loop-i l = 32 - l.i
+    (l.found.best.count ≤ (l.i - 1) * 31) × (choice_from None l.list l.covered l.found.best l.i ≡ chosen_among None l.list l.covered)
