@@ -16,4 +16,4 @@ pub use fields::{
     head_size, number,
 };
 pub use parts::{BlockCoedges, CoedgePoints, RingBlocks, coedges, points, ring_blocks};
-pub use point::Point;
+pub use point::{ORIGIN, Point};
