@@ -6,10 +6,15 @@ use Rattle.std.proofs.Common.{◌≡◌, ℕ, zero, suc, ◌+◌, ◌-◌, ◌*�
 use native.Mathlib.Nat.{sub-zero}
 use lib.Dec.{nleb→lt}
 use lib.Pow.{pow-lt}
+use Rattle.std.specs.Int.{from_bool}
 use Rattle.leaves.specs.Root.{whole_root}
-use Rattle.leaves.specs.Engine.{radicand, digit_of, Started}
+use Rattle.leaves.specs.Engine.{radicand, Started}
 use Rattle.leaves.proofs.Squares.{square_add}
 use Rattle.leaves.proofs.WholeRoots.{root_is}
+
+-- 1 where the step can be taken off what is left, else 0
+abbrev pub digit_of : ℕ → ℕ → ℕ
+digit_of step left = from_bool (leb step left)
 
 pub record Found (n found left place : ℕ) : Type 0 where
   pub small : found + 2 ^ place ≤ 2 ^ 54
@@ -99,7 +104,7 @@ stepped_none n found left place h l =
 pub stepped : (n found left place : ℕ) → Found n found left (suc place) → Stepped n found left place (found + found + 2 ^ place) (digit_of (found + found + 2 ^ place) left)
 stepped n found left place h = go (leb (found + found + 2 ^ place) left) (leb→le (found + found + 2 ^ place) left) (nleb→lt (found + found + 2 ^ place) left)
   where
-    go : (b : Bool) → (T b → found + found + 2 ^ place ≤ left) → (T (not b) → left < found + found + 2 ^ place) → Stepped n found left place (found + found + 2 ^ place) (cond b 1 0)
+    go : (b : Bool) → (T b → found + found + 2 ^ place ≤ left) → (T (not b) → left < found + found + 2 ^ place) → Stepped n found left place (found + found + 2 ^ place) (from_bool b)
     go true p q = stepped_one n found left place h (p tt)
     go false p q = stepped_none n found left place h (q tt)
 

@@ -10,7 +10,7 @@
 ghost use Rattle.std.specs.Prelude.{◌≡◌, ◌-◌, ◌*◌, ◌^◌, ◌<◌, ◌≤◌, T};
 ghost use Rattle.std.specs.Float.Ieee.{lt};
 ghost use Rattle.leaves.specs.Constants.{plus_zero};
-ghost use Rattle.leaves.specs.Engine.{RootOfFraction, root_digits_of, radicand, digit_of, Started};
+ghost use Rattle.leaves.specs.Engine.{RootOfFraction, root_digits_of, radicand, Started};
 ghost use Rattle.leaves.specs.Root.{root_of};
 
 pub(crate) const HIDDEN: u64 = 0x10_0000_0000_0000; // 2^52, the weight of a normal number's leading digit
@@ -99,11 +99,9 @@ fn digits(root: u64, places: u64, rest: u64) -> RootDigits
 {
     let mut found = root;
     let mut left = rest;
-    let mut place = places;
-    while 0 < place {
-        place -= 1;
+    for place in (0..places).rev() {
         let step = found + found + (1 << place);
-        let digit = next_digit(step, left);
+        let digit = u64::from(step <= left);
         found += digit << place;
         left = (left - step * digit) * 2;
     }
@@ -111,11 +109,4 @@ fn digits(root: u64, places: u64, rest: u64) -> RootDigits
         root: found,
         rest: left / 2,
     }
-}
-
-// 1 where the step can be taken off what is left, else 0.
-fn next_digit(step: u64, left: u64) -> u64
-    ensures { result ≡ digit_of step left }
-{
-    if step <= left { 1 } else { 0 }
 }
