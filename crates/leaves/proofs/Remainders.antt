@@ -1,8 +1,9 @@
 -- The remainder by TAU, worked out by whole numbers. TAU is 7074237752028440 / 2 ^ 50, and so is every value from TAU
 -- on a whole number of 2 ^ -50ths; the remainder of the two numbers is the remainder's, and a value of the format, so
 -- nothing is rounded. A smaller value that is not negative is its own remainder, and a negative one's has its sign.
-use Rattle.std.proofs.Common.{◌≡◌, ℕ, suc, ◌+◌, ◌-◌, ◌*◌, ◌/◌, ◌%◌, ◌^◌, ◌<◌, ◌≤◌, Bool, true, false, not, T, ℤ, pos, negsuc, refl, sym, ap, ◌∙◌, subst, lt_of_lt_of_le, le_trans, mul_assoc, mul-pos, mul-lt-mul_of_pos_right, mul-le-mul_right, mul-le-mul_left, lt_of_mul-lt-mul_right, mod-lt, mod-eq_of_lt, arith, lt→ltb, ltb→lt, nltb→le, T_not, lt_of_not-le, mul-div_cancel, add-zero, lit<, lit≤, pow_pos, pow_mono, pow-add}
+use Rattle.std.proofs.Common.{◌≡◌, ℕ, suc, ◌+◌, ◌-◌, ◌*◌, ◌/◌, ◌%◌, ◌^◌, ◌<◌, ◌≤◌, Bool, true, false, not, T, ℤ, pos, negsuc, refl, sym, ap, ◌∙◌, subst, lt_of_lt_of_le, le_trans, mul_assoc, mul-pos, mul-lt-mul_of_pos_right, mul-le-mul_right, mul-le-mul_left, lt_of_mul-lt-mul_right, mod-lt, mod-eq_of_lt, arith, lt→ltb, ltb→lt, nltb→le, T_not, lt_of_not-le, mul-div_cancel, add-zero, add-one, pow-suc, lit<, lit≤, pow_pos, pow_mono, pow-add}
 use native.Mathlib.Nat.{mul-mod_left, eq_of_mul-eq-mul_right, le_of_mul-le-mul_right}
+use Rattle.std.proofs.lemmas.Nat.{mul-mod_first}
 use lib.Arith.{le→nltb, mod-mul}
 use lib.Pow.{shl_lt}
 use lib.Ieee.{Float, nan, inf, fin, Format, binary64, emax, low, up, down, round, neg, div, rem, lt, le, of_int, fits, of_bits, to_bits}
@@ -25,6 +26,10 @@ tau_parts = 7074237752028440
 
 mod_scaled : (a b k : ℕ) → 0 < b → 0 < k → a * k % (b * k) ≡ a % b * k
 mod_scaled a b k B K = mod-mul (a * k) B K ∙ rw (mul-div_cancel a K, mul-mod_left a k) (add-zero (a % b * k))
+
+-- one doubling more, reduced
+pub doubled : (a k n : ℕ) → n ≡ a * 2 ^ k % tau_parts → n * 2 % tau_parts ≡ a * 2 ^ (k + 1) % tau_parts
+doubled a k n e = rw (e, add-one, pow-suc, ← mul_assoc) (mul-mod_first (a * 2 ^ k) 2 tau_parts)
 
 -- ---- a value from TAU on
 

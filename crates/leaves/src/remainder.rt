@@ -14,6 +14,7 @@ const TAU_PARTS: u64 = 7074237752028440; // TAU in 2^-50ths
 const PARTS: f64 = 1125899906842624.0; // 2^50, 4310000000000000
 
 // What is left of number * 2^doublings: the remainder is doubled, and reduced each time.
+#[tactic(auto, using(crate::proofs::Remainders::doubled))]
 fn parts_left(number: u64, doublings: u64) -> u64
     ensures { result ≡ number * 2 ^ doublings % 7074237752028440 }
 {
