@@ -39,5 +39,5 @@ pub fn clamp(x: f64, low: f64, high: f64) -> f64
 pub fn exceeds(d: f64, limit: f64) -> bool
     ensures { result ≡ exceeds_of d limit }
 {
-    if limit < d { true } else { limit < -d }
+    limit < d || limit < -d
 }

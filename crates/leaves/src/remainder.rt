@@ -30,10 +30,10 @@ fn rest_from_tau(x: f64) -> f64
     requires { T (le tau x) }
     ensures { result ≡ rem binary64 x tau }
 {
-    let bits = f64::to_bits(x);
+    let bits = x.to_bits();
     let field = bits / HIDDEN;
     if field == 2047 {
-        return 0.0 / 0.0;
+        return f64::NAN;
     }
     parts_left(HIDDEN + bits % HIDDEN, field - 1025) as f64 / PARTS
 }

@@ -29,7 +29,7 @@ pub fn root(x: f64) -> f64
     if x > 0.0 {
         root_above_zero(x)
     } else if x < 0.0 {
-        0.0 / 0.0
+        f64::NAN
     } else {
         x
     }
@@ -40,7 +40,7 @@ fn root_above_zero(x: f64) -> f64
     requires { T (lt plus_zero x) }
     ensures { result ≡ root_of x }
 {
-    let bits = f64::to_bits(x);
+    let bits = x.to_bits();
     let field = bits / HIDDEN;
     let low = bits % HIDDEN;
     if field == 2047 {
@@ -58,7 +58,7 @@ fn root_of_subnormal(low: u64) -> f64
     requires small { low < 2 ^ 52 }
     ensures { RootOfFraction result low 1074 }
 {
-    let places = (u64::leading_zeros(low) - 11) as u64;
+    let places = (low.leading_zeros() - 11) as u64;
     root_of_scaled(low << places, 1022 - places)
 }
 

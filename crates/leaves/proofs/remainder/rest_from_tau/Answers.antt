@@ -1,5 +1,6 @@
 -- `leaves::remainder::rest_from_tau`: the bits give the value in 2 ^ -50ths; what is left of these is the remainder.
 use Rattle.std.proofs.Common.{◌≡◌, ℕ, ◌/◌, ◌%◌, ◌^◌, ◌<◌, T, true, sym, ◌∙◌, subst, le→leb, mod-lt, lt_of_lt_of_le, arith, lit<, lit≤}
+use Rattle.std.proofs.lemmas.Float.{T_from_true}
 use lib.Ieee.{Float, binary64, to_bits, fits, le, in_float, of_bits, div}
 use lib.IntN.{pos}
 use Rattle.leaves.specs.Constants.{tau}
@@ -7,7 +8,7 @@ use Rattle.leaves.proofs.Remainders.{FromTau, from_tau, parts_value}
 use Rattle.leaves.proofs.remainder.rest_from_tau.Goals as goal
 
 read : (x : Float) → fits binary64 x ≡ true → T (le tau x) → FromTau x (to_bits binary64 x / 2 ^ 52) (to_bits binary64 x % 2 ^ 52)
-read x h l = from_tau x (subst T (sym h) tt) l
+read x h l = from_tau x (T_from_true _ h) l
 
 few : (n a : ℕ) → n ≡ a % 7074237752028440 → n < 2 ^ 53
 few n a e = rw e (lt_of_lt_of_le (mod-lt a (lit< tt)) (lit≤ tt))
