@@ -4,7 +4,7 @@
 -- product with or a quotient by a value above 0: each keeps the order
 -- because its exact fraction does, and a square where there is no sign. An infinity among the operands stays at its end
 -- of the order; a sum is a NaN only of two opposite infinities.
-use Rattle.std.proofs.Common.{◌≡◌, ℕ, ◌+◌, ◌-◌, ◌*◌, ◌<◌, ◌≤◌, Bool, true, false, cond, not, T, ltb, ℤ, pos, sym, refl, ap, ◌∙◌, subst, subst₂, true≢false, le_refl, mul_comm, mul-le-mul, mul-pos, arith, ltb→lt, nltb→le}
+use Rattle.std.proofs.Common.{◌≡◌, ℕ, ◌+◌, ◌-◌, ◌*◌, ◌<◌, ◌≤◌, Bool, true, false, cond, not, T, ltb, ℤ, pos, sym, refl, ap, ◌∙◌, subst, subst₂, true≢false, mul_comm, mul-le-mul, mul-pos, arith, ltb→lt, nltb→le}
 use native.Mathlib.Nat.{mul-mul-mul_comm}
 use lib.Ieee.{Float, nan, inf, fin, Format, up, down, round, neg, sum, add, sub, mul, div, is_nan, le}
 use lib.Ieee.Fits.{down_pos}

@@ -4,7 +4,7 @@
 use Rattle.std.proofs.Common.{◌≡◌, ℕ, zero, suc, ◌+◌, ◌-◌, ◌*◌, ◌/◌, ◌%◌, ◌^◌, ◌<◌, ◌≤◌, Bool, true, false, cond, not, T, eqb, leb, pos, sym, refl, ap, ◌∙◌, subst, zero-le, lt_of_le_of_lt, lt_irrefl, mod-eq_of_lt, suc-mul, mul_comm, mul-pos, pow-suc, mul-one, arith, eqb→eq, ltb→lt, lt→ltb, pow_pos}
 use Rattle.std.proofs.lemmas.Bool.{ne_eqb}
 use Rattle.std.proofs.lemmas.Float.{T_from_false}
-use lib.Dec.{eqb_refl, nleb→lt, not_T}
+use lib.Dec.{eqb_refl, nleb→lt}
 use lib.Arith.{digits_div, digits_mod, digits_lt, lt→nleb}
 use lib.Ieee.{Float, nan, inf, fin, Format, prec, emax, low, hid, ones, top, odd, of_fields, of_bits, to_bits, lt, fits, is_nan, nan_bits, up, down}
 use lib.Ieee.Bits.{of_bits-to_bits, nan_bits_is, is_false}

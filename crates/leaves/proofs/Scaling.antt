@@ -1,7 +1,7 @@
 -- Products with and quotients by a value that is finite and above 0. Such a value is what the tests of a program say of
 -- it. It leaves an infinity and every sign as they are, and makes of a finite
 -- value one fraction, which is rounded once. A zero stays the zero of its sign; a product with 0 is one.
-use Rattle.std.proofs.Common.{◌≡◌, ℕ, ◌*◌, ◌<◌, Bool, true, false, cond, T, eqb, ltb, ℤ, pos, refl, ap, ◌∙◌, zero-lt-suc, mul_comm, mul-pos, mul-zero, arith, eqb→eq, ltb→lt, lt→ltb}
+use Rattle.std.proofs.Common.{◌≡◌, ℕ, ◌*◌, ◌<◌, Bool, true, false, cond, T, eqb, ltb, ℤ, pos, refl, ap, ◌∙◌, zero-lt-suc, mul_comm, mul-pos, mul-zero, arith, ltb→lt, lt→ltb}
 use Rattle.std.proofs.lemmas.Bool.{ne_eqb}
 use lib.Ieee.{Float, nan, inf, fin, Format, up, down, of_bits, round, mul, div, unlike, lt}
 use lib.Ieee.Fits.{down_pos}

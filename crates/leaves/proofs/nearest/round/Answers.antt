@@ -1,6 +1,6 @@
 -- `leaves::nearest::round` is `round_of`: a negative value is rounded as its magnitude is, and what is not rounded has
 -- no fraction. From 2 ^ 52 on no value has one.
-use Rattle.std.proofs.Common.{◌≡◌, ◌+◌, ◌*◌, ◌^◌, Bool, true, false, not, T, sym, refl, ap, ◌∙◌, subst, arith, ltb→lt, lt→ltb, nltb→le}
+use Rattle.std.proofs.Common.{◌≡◌, ◌+◌, ◌*◌, ◌^◌, true, false, not, T, sym, refl, ap, ◌∙◌, arith, ltb→lt, lt→ltb, nltb→le}
 use Rattle.std.proofs.lemmas.Float.{T_from_true, T_from_false}
 use lib.Ieee.{Float, nan, inf, fin, binary64, up, down, lt, neg, fits, of_bits}
 use lib.Ieee.Fits.{neg-fits}

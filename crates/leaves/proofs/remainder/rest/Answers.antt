@@ -1,5 +1,5 @@
 -- `leaves::remainder::rest`: a negative value's remainder is that of its magnitude, with its sign.
-use Rattle.std.proofs.Common.{T, sym, ap, ◌∙◌, subst}
+use Rattle.std.proofs.Common.{ap, ◌∙◌}
 use Rattle.std.proofs.lemmas.Float.{T_from_true}
 use lib.Ieee.{neg}
 use Rattle.leaves.proofs.Remainders.{neg_not_below, rem_neg}

@@ -1,5 +1,5 @@
 -- `leaves::remainder::rest_of_magnitude`: below TAU a value that is not negative is its own remainder.
-use Rattle.std.proofs.Common.{Bool, T, not, sym, subst}
+use Rattle.std.proofs.Common.{sym}
 use Rattle.std.proofs.lemmas.Float.{T_from_true, T_from_false}
 use Rattle.leaves.proofs.Remainders.{rem_below_tau}
 use Rattle.leaves.proofs.remainder.rest_of_magnitude.Goals as goal

@@ -1,6 +1,6 @@
 -- `leaves::square_root::root` is `root_of`: above zero by `root_above_zero`, below it a NaN, and zeros and a NaN
 -- themselves.
-use Rattle.std.proofs.Common.{Bool, not, T, sym, subst}
+use Rattle.std.proofs.Common.{sym}
 use Rattle.std.proofs.lemmas.Float.{T_from_true, T_from_false}
 use lib.Ieee.{binary64, of_bits, div}
 use Rattle.leaves.specs.Root.{root_of}

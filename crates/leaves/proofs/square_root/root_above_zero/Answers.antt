@@ -1,6 +1,6 @@
 -- `leaves::square_root::root_above_zero`: the fields of the bits say what the value is, and each arm takes the root of
 -- that fraction.
-use Rattle.std.proofs.Common.{◌≡◌, ℕ, ◌+◌, ◌-◌, ◌/◌, ◌%◌, ◌^◌, ◌<◌, T, true, sym, subst, arith}
+use Rattle.std.proofs.Common.{◌≡◌, ℕ, ◌+◌, ◌-◌, ◌/◌, ◌%◌, ◌^◌, ◌<◌, T, true, arith}
 use Rattle.std.proofs.lemmas.Float.{T_from_true}
 use lib.Ieee.{Float, binary64, of_bits, to_bits, lt, fits}
 use Rattle.leaves.specs.Constants.{plus_zero}
