@@ -3,6 +3,7 @@
 -- nothing is rounded. A smaller value that is not negative is its own remainder, and a negative one's has its sign.
 use Rattle.std.proofs.Common.{◌≡◌, ℕ, suc, ◌+◌, ◌-◌, ◌*◌, ◌/◌, ◌%◌, ◌^◌, ◌<◌, ◌≤◌, Bool, true, false, not, T, ℤ, pos, negsuc, refl, sym, ap, ◌∙◌, subst, lt_of_lt_of_le, le_trans, mul_assoc, mul-pos, mul-lt-mul_of_pos_right, mul-le-mul_right, mul-le-mul_left, lt_of_mul-lt-mul_right, mod-lt, mod-eq_of_lt, arith, lt→ltb, ltb→lt, nltb→le, T_not, lt_of_not-le, mul-div_cancel, add-zero, add-one, pow-suc, lit<, lit≤, pow_pos, pow_mono, pow-add}
 use native.Mathlib.Nat.{mul-mod_left, eq_of_mul-eq-mul_right, le_of_mul-le-mul_right}
+use Rattle.std.proofs.lemmas.Float.{T_from_true, T_from_false}
 use Rattle.std.proofs.lemmas.Nat.{mul-mod_first}
 use lib.Arith.{le→nltb, mod-mul}
 use lib.Pow.{shl_lt}
@@ -227,18 +228,21 @@ below_tau (fin true m e) h z b = rem_small true m e h (none (m * up e) (down e) 
     none : (a d : ℕ) → 0 < d → a * 1 + 0 * 2 ^ 0 * d ≤ 0 → a * 2 ^ 47 < 884279719003555 * 1 * d
     none a d D h = omega arith
 
-pub rem_below_tau : (x : Float) → T (fits binary64 x) → T (not (lt x plus_zero)) → T (not (le tau x)) → rem binary64 x tau ≡ x
-rem_below_tau x h z b = ap (rem binary64 x) tau_is ∙ below_tau x h z (subst (λ (y : Float). T (not (le y x))) tau_is b)
+pub rem_below_tau : (x : Float) → fits binary64 x ≡ true → T (not (lt x plus_zero)) → le tau x ≡ false → rem binary64 x tau ≡ x
+rem_below_tau x h z b = ap (rem binary64 x) tau_is ∙ below_tau x (T_from_true _ h) z (subst (λ (y : Float). T (not (le y x))) tau_is (T_from_false _ b))
 
 -- ---- the sign
 
-pub neg_not_below : (x : Float) → T (lt x plus_zero) → T (not (lt (neg x) plus_zero))
+neg_below : (x : Float) → T (lt x plus_zero) → T (not (lt (neg x) plus_zero))
 unfolding lt of_bits neg
-neg_not_below nan h = absurd h
-neg_not_below (inf true) h = tt
-neg_not_below (inf false) h = absurd h
-neg_not_below (fin true m e) h = le→nltb (m * up e * 1) (0 * 2 ^ 0 * down e) (omega arith)
-neg_not_below (fin false m e) h = absurd (omega (arith, ltb→lt (m * up e * 1) (0 * 2 ^ 0 * down e) h))
+neg_below nan h = absurd h
+neg_below (inf true) h = tt
+neg_below (inf false) h = absurd h
+neg_below (fin true m e) h = le→nltb (m * up e * 1) (0 * 2 ^ 0 * down e) (omega arith)
+neg_below (fin false m e) h = absurd (omega (arith, ltb→lt (m * up e * 1) (0 * 2 ^ 0 * down e) h))
+
+pub neg_not_below : (x : Float) → lt x plus_zero ≡ true → T (not (lt (neg x) plus_zero))
+neg_not_below x h = neg_below x (T_from_true _ h)
 
 neg_rem : (x : Float) → neg (rem binary64 (neg x) tau_value) ≡ rem binary64 x tau_value
 unfolding rem neg

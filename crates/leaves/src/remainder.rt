@@ -39,6 +39,7 @@ fn rest_from_tau(x: f64) -> f64
 }
 
 // The remainder of an x that is not negative; of a NaN a NaN.
+#[tactic(auto, using(crate::proofs::Remainders::rem_below_tau))]
 fn rest_of_magnitude(x: f64) -> f64
     requires { T (not (lt x plus_zero)) }
     ensures { result ≡ rem binary64 x tau }
@@ -47,6 +48,7 @@ fn rest_of_magnitude(x: f64) -> f64
 }
 
 // x rem TAU, where rem is %.
+#[tactic(auto, using(crate::proofs::Remainders::neg_not_below, crate::proofs::Remainders::rem_neg))]
 pub(crate) fn rest(x: f64) -> f64
     ensures { result ≡ rem binary64 x tau }
 {

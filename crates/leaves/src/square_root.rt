@@ -63,6 +63,7 @@ fn root_of_subnormal(low: u64) -> f64
 }
 
 // The root of significand * 2^exponent / 2^2096.
+#[tactic(auto, using(crate::proofs::PackedRoots::odd_root))]
 fn root_of_scaled(significand: u64, exponent: u64) -> f64
     requires large { 2 ^ 52 ≤ significand }
     requires small { significand < 2 ^ 53 }
