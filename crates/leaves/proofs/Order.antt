@@ -7,7 +7,6 @@ pub use Rattle.std.proofs.lemmas.Float.{lt_irrefl as float_lt_irrefl, le_refl as
 use Rattle.std.proofs.lemmas.Float.{lt_of_lt_of_le, lt_of_le_of_lt, le_trans, lt-or-eq}
 use mathlib.Core.Bool.{beq}
 use lib.Dec.{not_T}
-use lib.Arith.{le→nltb}
 use lib.Ieee.{Float, nan, inf, fin, Format, low, up, down, of_bits, neg, fits, is_nan, lt, eq, le}
 use lib.Ieee.Fits.{and_i, and_l, down_pos, eq→eqb, up_pos}
 use lib.Ieee.Scale.{finite, overflow}
@@ -208,9 +207,6 @@ module _ (f : Format) (x y : Float) (h : T (fits f x)) (k : T (fits f y)) where
 
   pub le→place : T (le x y) → place f x ≤ place f y
   le→place l = nltb→le (place f y) (place f x) (subst (λ (b : Bool). T (not b)) (lt_place f y x k h (le_right x y l)) (le→not_lt x y l))
-
-  pub place→le : T (not (is_nan x)) → T (not (is_nan y)) → place f x ≤ place f y → T (le x y)
-  place→le n o l = not_lt→le y x o n (subst (λ (b : Bool). T (not b)) (sym (lt_place f y x k h o)) (le→nltb (place f y) (place f x) l))
 
 -- ---- one value to a place, but for the zeros
 

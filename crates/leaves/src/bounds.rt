@@ -1,4 +1,5 @@
-// Smaller-of, larger-of and clamp, as document 01 words them, and a magnitude over a limit.
+// Smaller-of, larger-of and clamp, as document 01 words them, and a magnitude over a limit. The library's `min` and
+// `max` pass a NaN over in either place and may answer either zero, and its `clamp` asks for ends in order.
 ghost use Rattle.std.specs.Prelude.{◌≡◌};
 ghost use Rattle.leaves.specs.Bounds.{smaller_of, larger_of, clamp_of, exceeds_of};
 

@@ -19,7 +19,7 @@ fn parts_left(number: u64, doublings: u64) -> u64
     ensures { result ≡ number * 2 ^ doublings % 7074237752028440 }
 {
     let mut left = number % TAU_PARTS;
-    for step in 0..doublings {
+    for _step in 0..doublings {
         left = left * 2 % TAU_PARTS;
     }
     left

@@ -1,4 +1,5 @@
-// The square root of IEEE 754, by binary digits.
+// The square root of IEEE 754, by binary digits. Document 01 has it worked out here: neither the machine's root
+// (`f64::sqrt`) nor the library's root of a whole number (`u128::isqrt`) is called.
 //
 // A finite x above 0 is unpacked to significand * 2^(2h) / 2^2096 with 2^52 <= significand < 2^54:
 // an odd exponent doubles the significand, a subnormal is shifted up first. The integer root R of
@@ -93,7 +94,8 @@ fn root_of_even(significand: u64, half: u64) -> f64
 // to be found, `places` of them. left * 2^place is always twice what is left of the radicand. The
 // next digit, of weight w = 2^(place - 1), is 1 where (found + w) * (found + w) is not above the
 // radicand, that is where 2 * found + w <= left. The digit is a number that is multiplied and
-// shifted, not a branch: half of all digits would be guessed wrong.
+// shifted, not a branch: half of all digits would be guessed wrong. (What it begins from is three
+// numbers and no struct: they stand together in this one call.)
 fn digits(root: u64, places: u64, rest: u64) -> RootDigits
     requires { Started root places rest }
     ensures { result ≡ root_digits_of (radicand root places rest) }

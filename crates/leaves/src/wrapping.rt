@@ -5,7 +5,7 @@ ghost use Rattle.leaves.specs.Wrap.{rem_tau, wrap_of};
 use crate::constants::{PI, TAU};
 use crate::remainder::rest;
 
-// x rem TAU, where rem is %, plus TAU if negative: Rust's `rem_euclid` by TAU.
+// x rem TAU, where rem is %, plus TAU if negative: Rust's `rem_euclid` by TAU, which calls the C library's `fmod`.
 #[tactic(auto, unfolding(crate::specs::Wrap::rem_tau, crate::specs::Wrap::lifted))]
 pub fn rem_tau(x: f64) -> f64
     ensures { result ≡ rem_tau x }
