@@ -1,5 +1,5 @@
-// The square root of IEEE 754, by binary digits. Document 01 has it worked out here: neither the machine's root
-// (`f64::sqrt`) nor the library's root of a whole number (`u128::isqrt`) is called.
+// The square root of IEEE 754, by binary digits. Document 01 has it worked out here, so the machine's (`f64::sqrt`) is
+// not called; the library's root of a whole number (`u128::isqrt`) takes three times as long.
 //
 // A finite x above 0 is unpacked to significand * 2^(2h) / 2^2096 with 2^52 <= significand < 2^54:
 // an odd exponent doubles the significand, a subnormal is shifted up first. The integer root R of
