@@ -73,20 +73,9 @@ fn served(period: f64, i: u32, copy: Segment, s: Segment) -> u32
     }
 }
 
-// The copy of a segment at column i: left as it is where it still serves, else worked out. `until` is a column up to
-// which it serves.
-fn renew_one(period: f64, i: u32, s: Segment, until: &mut u32, copy: &mut Segment)
-    requires { (i ≤ 31) × Serving period i until.old s copy.old }
-    ensures { (i ≤ until.new) × Serving period i until.new s copy.new }
-{
-    if *until < i {
-        *copy = copy_at(period, part(i), s);
-        *until = served(period, i, *copy, s);
-    }
-}
-
-// The copies of all segments at column i, over those of the column before. The search measures from a list of segments,
-// so the columns up to which the copies serve are no part of it, and stand in a list of their own.
+// The copies of all segments at column i, over those of the column before: each is left as it is where it still serves,
+// up to the column that `until` has for it, else worked out. The search measures from a list of segments, so these
+// columns are no part of it, and stand in a list of their own.
 pub(crate) fn renew(
     period: f64,
     i: u32,
@@ -98,6 +87,10 @@ pub(crate) fn renew(
     ensures { (copies.new ≡ map (shifted_to period (part_of i)) list.now) × Ready period (i + 1) list.now until.new copies.new }
 {
     for (k, s) in list.iter().enumerate() {
-        renew_one(period, i, *s, &mut until[k], &mut copies[k]);
+        if until[k] < i {
+            let copy = copy_at(period, part(i), *s);
+            copies[k] = copy;
+            until[k] = served(period, i, copy, *s);
+        }
     }
 }

@@ -1,17 +1,23 @@
 -- `search::copies::renew` renews every copy. The loop's invariant: each copy serves from column i on up to the column
--- noted in its place, and for the first k of them that is column i or a later one. A turn renews one.
-use Rattle.std.proofs.Common.{arith}
+-- noted in its place, and for the first k of them that is column i or a later one. A turn renews one, or leaves it.
+use Rattle.std.proofs.Common.{arith, below_more}
 use Rattle.search.proofs.Renewing.{renewed, noted_up, ready_next, all_renewed}
 use Rattle.search.proofs.copies.renew.Goals as goal
+use Rattle.search.proofs.copies.renew.Goals.{then-until-k, else-until-k}
 
 pub loop-k-preserved : goal.loop-k-preserved
 loop-k-preserved c =
     let x = c.args in
     let l = c.loop-k in
-    let r = c.renew_one in (
-      renewed x.period x.i x.list.now l.until l.copies l.k r.new.until r.new.copy _ (omega arith) (omega arith) l.invariant.0 r.ensures.1,
-      noted_up x.period x.i x.list.now l.until l.copies l.k r.new.until r.new.copy _ (omega arith) (omega arith) l.invariant.0 r.ensures.1 r.ensures.0 l.invariant.1,
-    )
+    elim c.if-until-k.branch [
+      | then-until-k w ↦
+          let r = w.served in
+          rw (w.until-is, w.copies-is) (
+            renewed x.period x.i x.list.now l.until l.copies l.k r.result w.copy_at-copy.result _ (omega arith) (omega arith) l.invariant.0 r.ensures.1,
+            noted_up x.period x.i x.list.now l.until l.copies l.k r.result w.copy_at-copy.result _ (omega arith) (omega arith) l.invariant.0 r.ensures.1 r.ensures.0 l.invariant.1,
+          )
+      | else-until-k w ↦ rw (w.until-is, w.copies-is) (l.invariant.0, below_more _ _ l.invariant.1 w.if-until-k.false)
+    ]
 
 pub returns : goal.returns
 returns c =
