@@ -1,21 +1,18 @@
 -- A ring's points as its block has them, a step at a time: of what is left after k of n, the first stands at the place,
 -- and the rest is what is left after k + 1.
-use mathlib.Core.Path.{◌≡◌, sym, ap, ap₂, ◌∙◌}
-use mathlib.Core.Bool.{Bool, cond}
+use mathlib.Core.Path.{◌≡◌, refl, sym, ap}
 use mathlib.Core.List.{List, [], ◌∷◌, ◌++◌, flat_map}
-use Prim.Native.Nat.{ℕ, suc, ◌+◌, ◌*◌, ◌-◌, ◌<◌, ◌≤◌}
+use Prim.Native.Nat.{ℕ, zero, suc, ◌+◌, ◌*◌, ◌-◌, ◌<◌, ◌≤◌}
 use native.Mathlib.Omega.{arith}
-use borrow.Author.Tests.{lt-ltb, le-ltb}
-use lib.Ieee.{Float}
 use lib.ListN.{length, get_or, take, drop}
 use lib.Seq.{drop-drop}
-use Rattle.sheet.specs.Content.{Point, point, ring_points, flat}
+use Rattle.sheet.specs.Content.{Point, point, ring_points}
 use Rattle.answers.specs.Lists.{over}
+use Rattle.answers.proofs.Over.{over_short}
 use Rattle.sheet.specs.Layout.{number, points, coedge, coedges, ring}
 use Rattle.sheet.proofs.Blocks.{ring_points_length}
 use Rattle.sheet.proofs.Walks.{coedges_step, coedges_end}
-use Rattle.points.proofs.Flat.{length_flat}
-use Rattle.points.proofs.InPlace.{Written, part_written, all_written}
+use Rattle.points.proofs.InPlace.{Written, part_written, over_written}
 
 -- ---- the points of a coedge
 
@@ -49,32 +46,32 @@ ring_end s n k h = ap ring_points (coedges_end s n k h)
 
 -- ---- the ring's points over the front of a list
 
-length_ring : (s : List ℕ) → length (flat (ring_points (ring s))) ≡ 34 * get_or s 0 0
-length_ring s = length_flat (ring_points (ring s)) ∙ omega (arith, ring_points_length s)
+length_ring : (s : List ℕ) → length (ring_points (ring s)) ≡ 17 * get_or s 0 0
+length_ring s = ring_points_length s
+
+length_points : (n : ℕ) (s : List ℕ) → length (points n s) ≡ n
+unfolding points
+length_points zero s = refl
+length_points (suc n) s = ap suc (length_points n (drop 16 s))
 
 -- a call wrote the points of the next coedge
-pub coedge_written : {before now : List Float} {whole : List Point} (s : List ℕ) (n k : ℕ) (ys : List Float) → Written before now (17 * k) (ring_points (coedges (n - k) (drop (1 + 280 * k) s))) whole → k < n → 34 * n ≤ length before
-    → ys ≡ flat (points 17 (drop (9 + 280 * k) s))
-    → Written before (take (34 * k) now ++ (ys ++ drop (34 * k + 34 - 34 * k) (drop (34 * k) now))) (17 * (k + 1)) (ring_points (coedges (n - (k + 1)) (drop (1 + 280 * (k + 1)) s))) whole
-unfolding points
+pub coedge_written : {before now whole : List Point} (s : List ℕ) (n k : ℕ) (ys : List Point) → Written before now (17 * k) (ring_points (coedges (n - k) (drop (1 + 280 * k) s))) whole → k < n → 17 * n ≤ length before
+    → ys ≡ points 17 (drop (9 + 280 * k) s)
+    → Written before (take (17 * k) now ++ (ys ++ drop (17 * k + 17 - 17 * k) (drop (17 * k) now))) (17 * (k + 1)) (ring_points (coedges (n - (k + 1)) (drop (1 + 280 * (k + 1)) s))) whole
 coedge_written s n k ys w h room e =
-    let a : 34 * k ≡ 2 * (17 * k) = omega arith in
-    let b : 2 * (17 * k) + 34 - 2 * (17 * k) ≡ 34 = omega arith in
-    let m : 17 * (k + 1) ≡ 17 * k + 17 = omega arith in
-    rw (a, b, m) (part_written w (points 17 (drop (9 + 280 * k) s)) (ring_points (coedges (n - (k + 1)) (drop (1 + 280 * (k + 1)) s))) (ring_step s n k h) ys e (omega arith))
+    let l : length ys ≡ 17 = rw e (length_points 17 (drop (9 + 280 * k) s)) in
+    let b : 17 * k + 17 - 17 * k ≡ length ys = omega arith in
+    let m : 17 * (k + 1) ≡ 17 * k + length ys = omega arith in
+    rw (b, m) (part_written w ys (ring_points (coedges (n - (k + 1)) (drop (1 + 280 * (k + 1)) s))) (rw e (ring_step s n k h)) (omega arith))
 
 -- all are written
-pub ring_read : {before now : List Float} {rest : List Point} (s : List ℕ) (n k : ℕ) → Written before now (17 * k) rest (ring_points (coedges n (drop 1 s))) → rest ≡ [] → n ≡ get_or s 0 0 → k ≡ n → 34 * n ≤ length before
-    → now ≡ over (flat (ring_points (ring s))) before
-unfolding over ring
+pub ring_read : {before now rest : List Point} (s : List ℕ) (n k : ℕ) → Written before now (17 * k) rest (ring_points (coedges n (drop 1 s))) → rest ≡ [] → n ≡ get_or s 0 0 → k ≡ n → 17 * n ≤ length before
+    → now ≡ over (ring_points (ring s)) before
+unfolding ring
 ring_read {before} s n k w e hn hk room =
-    let xs = flat (ring_points (ring s)) in
-    let j : 2 * (17 * k) ≡ length xs = omega (arith, length_ring s) in
-    all_written w e
-    ∙ ap₂ (λ (m i : ℕ). flat (ring_points (coedges m (drop 1 s))) ++ drop i before) hn j
-    ∙ sym (ap (λ (b : Bool). cond b before (xs ++ drop (length xs) before)) (le-ltb (length before) (length xs) (omega (arith, length_ring s))))
+    let l : 17 * k ≡ length (ring_points (coedges n (drop 1 s))) = rw hn (omega (arith, length_ring s)) in
+    rw (← hn) (over_written w e l (omega arith))
 
 -- there is no room
-pub ring_unread : (s : List ℕ) (xs : List Float) → length xs < 34 * get_or s 0 0 → xs ≡ over (flat (ring_points (ring s))) xs
-unfolding over
-ring_unread s xs h = rw (lt-ltb (length xs) (length (flat (ring_points (ring s)))) (omega (arith, length_ring s)))
+pub ring_unread : (s : List ℕ) (xs : List Point) → length xs < 17 * get_or s 0 0 → xs ≡ over (ring_points (ring s)) xs
+ring_unread s xs h = sym (over_short (ring_points (ring s)) xs (omega (arith, length_ring s)))

@@ -1,24 +1,32 @@
--- Whether a ring goes around, by the first and the last point in the list of its numbers.
-use mathlib.Core.Path.{◌≡◌, ap}
+-- The last of a list's items, and whether a ring goes around, by its first and its last point.
+use mathlib.Core.Path.{◌≡◌, refl, sym}
 use mathlib.Core.Bool.{false}
-use mathlib.Core.List.{List}
-use Prim.Native.Nat.{◌*◌, ◌-◌, ◌/◌, ◌<◌}
+use mathlib.Core.List.{List, [], ◌∷◌}
+use Prim.Native.Nat.{suc, ◌-◌, ◌≤◌}
 use native.Mathlib.Omega.{arith}
-use lib.Ieee.{Float, nan, binary64, sub}
+use lib.Ieee.{binary64, sub}
 use lib.ListN.{length, get_or}
+use Rattle.std.proofs.Common.{Some}
+use Rattle.std.proofs.lemmas.Option.{get_or_from_slice_get, none-some}
+use Rattle.std.specs.List.{slice_get}
 use Rattle.leaves.specs.Bounds.{exceeds_of}
 use Rattle.leaves.specs.Constants.{pi}
-use Rattle.sheet.specs.Content.{pairs}
-use Rattle.points.specs.Bounds.{goes_around}
-use Rattle.points.proofs.Pairs.{pairs_step, pairs_end}
-use Rattle.points.proofs.Walk.{last_point}
+use Rattle.sheet.specs.Content.{Point}
+use Rattle.points.specs.Bounds.{last_of, goes_around}
 
-pub around : (xs : List Float) → 0 < length xs / 2 → goes_around (pairs xs) ≡ exceeds_of (sub binary64 (get_or xs 0 nan) (get_or xs (2 * (length xs / 2) - 2) nan)) pi
-unfolding goes_around
-around xs h =
-    let e : 2 * (length xs / 2) - 2 ≡ 2 * (length xs / 2 - 1) = omega arith in
-    rw (pairs_step xs 0 nan (omega arith), last_point xs (omega arith), e)
+pub last_at : {A : Type 0} (p : A) (ps : List A) (d : A) → last_of p ps ≡ get_or (p ∷ ps) (length ps) d
+unfolding last_of
+last_at p [] d = refl
+last_at p (q ∷ ps) d = last_at q ps d
 
-pub no_points_around : (xs : List Float) → length xs / 2 ≡ 0 → goes_around (pairs xs) ≡ false
+pub around_none : (ring : List Point) → length ring ≤ 0 → goes_around ring ≡ false
 unfolding goes_around
-no_points_around xs h = ap goes_around (pairs_end xs 0 (omega arith))
+around_none [] h = refl
+around_none (p ∷ ps) h = absurd (omega arith)
+
+pub around_some : (ring : List Point) (d last : Point) → Some last ≡ slice_get ring (length ring - 1) → goes_around ring ≡ exceeds_of (sub binary64 (get_or ring 0 d).u last.u) pi
+unfolding goes_around
+around_some [] d last h = absurd (none-some last (sym h))
+around_some (p ∷ ps) d last h =
+    let n : suc (length ps) - 1 ≡ length ps = omega arith in
+    rw (last_at p ps last, ← n, get_or_from_slice_get (p ∷ ps) (length (p ∷ ps) - 1) last last (sym h))

@@ -55,5 +55,5 @@ unfolding written_point
 written_is phase p = refl
 
 -- how many numbers the points of a list are, each changed
-pub changed_room : (change : Point → Point) (xs : List Float) → length (flat (map change (pairs xs))) ≡ 2 * (length xs / 2)
-changed_room change xs = simp (length_flat, length-map, length_pairs)
+pub changed_room : (change : Point → Point) (ps : List Point) → length (flat (map change ps)) ≡ 2 * length ps
+changed_room change ps = simp (length_flat, length-map)

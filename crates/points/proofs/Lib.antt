@@ -9,12 +9,12 @@ pub mod Anew
 -- a ring's points in its block
 pub mod BlockPoints
 -- a ring's points moved, and what holds of them
-pub mod Unrolling
 pub mod Moved
 pub mod Reach
 -- the box, a ring's ends and its joins
 pub mod Axes
 pub mod Ends
+pub mod Boxes
 pub mod Seams
 pub mod Opening
 -- a ring's segments, one after the other, and a ring in a list of numbers, point by point

@@ -6,7 +6,7 @@ use Rattle.std.specs.Float.{inf, binary64}
 use Rattle.std.specs.Float.Ieee.{sub}
 use Rattle.leaves.specs.Bounds.{smaller_of, larger_of, exceeds_of}
 use Rattle.leaves.specs.Constants.{pi}
-use Rattle.sheet.specs.Content.{Point}
+use Rattle.sheet.specs.Content.{Point, point}
 use Rattle.points.specs.declared.bounds.Box.{Box}
 
 unfoldable pub least : List Float → Float
@@ -23,10 +23,15 @@ axis_of axis p = cond (eqb axis 0) p.u p.v
 unfoldable pub box_of : List Point → Box
 unfolding least greatest axis_of
 box_of ps = record {
-  least_u = least (map (axis_of 0) ps);
-  least_v = least (map (axis_of 1) ps);
-  greatest_u = greatest (map (axis_of 0) ps);
-  greatest_v = greatest (map (axis_of 1) ps);
+  least = point (least (map (axis_of 0) ps)) (least (map (axis_of 1) ps));
+  greatest = point (greatest (map (axis_of 0) ps)) (greatest (map (axis_of 1) ps));
+}
+
+-- the box of one point more
+unfoldable pub with_point : Box → Point → Box
+with_point box p = record {
+  least = point (smaller_of box.least.u p.u) (smaller_of box.least.v p.v);
+  greatest = point (larger_of box.greatest.u p.u) (larger_of box.greatest.v p.v);
 }
 
 -- the last of one and those after it

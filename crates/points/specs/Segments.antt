@@ -1,11 +1,12 @@
 -- Document 01, "Chart", rule 6: "Segments join each ring point to the next, the last to the first".
 -- The points of a ring are in the chart, or their images in space.
-use Rattle.std.specs.Prelude.{List, [], ◌∷◌, Float}
+use Rattle.std.specs.Prelude.{List, [], ◌∷◌, None, Some, Float}
 use Rattle.std.specs.Float.{binary64}
 use Rattle.std.specs.Float.Ieee.{of_bits, add, sub, div}
 use Rattle.sheet.specs.Content.{Point}
 use Rattle.points.specs.Turns.{turns}
 use Rattle.points.specs.declared.segment.Between as declared
+use Rattle.points.specs.declared.segment.SegmentsLeft.{SegmentsLeft}
 
 -- the code's struct (src/segment.rt)
 abbrev pub Between : Type 0 → Type 0
@@ -23,6 +24,12 @@ unfoldable pub segments : {A : Type 0} → List A → List (Between A)
 unfolding segments_from
 segments [] = []
 segments (p ∷ ps) = segments_from p p ps
+
+-- those that the code's iterator (src/segment.rt) has yet to give: none where it has given the last, which ends in the
+-- ring's first point
+unfoldable pub segments_left : {A : Type 0} → SegmentsLeft A → List (Between A)
+unfolding segments_from
+segments_left it = elim it.last [ None ↦ [] | Some last ↦ segments_from last.b last.a it.rest.now ]
 
 -- ---- in the chart
 

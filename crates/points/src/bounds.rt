@@ -1,54 +1,64 @@
 // Rule 3: the box, and whether a ring goes around.
 ghost use Rattle.std.specs.Prelude.{◌≡◌};
-ghost use Rattle.sheet.specs.Content.{pairs};
-ghost use Rattle.points.specs.Bounds.{box_of, goes_around};
+ghost use Rattle.points.specs.Bounds.{box_of, with_point, goes_around};
 
 use leaves::constants::PI;
+use sheet::Point;
 
 // The least and the greatest u and v of points.
 #[derive(Clone, Copy)]
 pub struct Box {
-    pub least_u: f64,
-    pub least_v: f64,
-    pub greatest_u: f64,
-    pub greatest_v: f64,
+    pub least: Point,
+    pub greatest: Point,
+}
+
+impl Box {
+    // The box of one point more.
+    #[tactic(auto, unfolding(crate::specs::Bounds::with_point))]
+    fn with_point(self, p: Point) -> Box
+        ensures { result ≡ with_point self p }
+    {
+        Box {
+            least: Point {
+                u: leaves::smaller_of(self.least.u, p.u),
+                v: leaves::smaller_of(self.least.v, p.v),
+            },
+            greatest: Point {
+                u: leaves::larger_of(self.greatest.u, p.u),
+                v: leaves::larger_of(self.greatest.v, p.v),
+            },
+        }
+    }
 }
 
 // The box of the points; infinities of no points.
-pub fn box_of(points: &[f64]) -> Box
-    ensures { result ≡ box_of (pairs points.now) }
+pub fn box_of(points: &[Point]) -> Box
+    ensures { result ≡ box_of points.now }
 {
-    let count = points.len() / 2;
-    let mut least_u = 1.0 / 0.0;
-    let mut least_v = 1.0 / 0.0;
-    let mut greatest_u = -1.0 / 0.0;
-    let mut greatest_v = -1.0 / 0.0;
-    let mut k = 0;
-    while k < count {
-        let at = 2 * k;
-        let u = points[at];
-        let v = points[at + 1];
-        least_u = leaves::smaller_of(least_u, u);
-        least_v = leaves::smaller_of(least_v, v);
-        greatest_u = leaves::larger_of(greatest_u, u);
-        greatest_v = leaves::larger_of(greatest_v, v);
-        k += 1;
+    let infinity = 1.0 / 0.0;
+    let mut found = Box {
+        least: Point {
+            u: infinity,
+            v: infinity,
+        },
+        greatest: Point {
+            u: -infinity,
+            v: -infinity,
+        },
+    };
+    for p in points {
+        found = found.with_point(*p);
     }
-    Box {
-        least_u: least_u,
-        least_v: least_v,
-        greatest_u: greatest_u,
-        greatest_v: greatest_v,
-    }
+    found
 }
 
 // Whether the ring's first and last u differ by over PI.
-pub fn goes_around(ring: &[f64]) -> bool
-    ensures { result ≡ goes_around (pairs ring.now) }
+#[tactic(auto, using(crate::proofs::Ends::around_none, crate::proofs::Ends::around_some))]
+pub fn goes_around(ring: &[Point]) -> bool
+    ensures { result ≡ goes_around ring.now }
 {
-    let count = ring.len() / 2;
-    if count == 0 {
-        return false;
+    match ring.last() {
+        None => false,
+        Some(last) => leaves::exceeds(ring[0].u - last.u, PI),
     }
-    leaves::exceeds(ring[0] - ring[2 * count - 2], PI)
 }

@@ -1,6 +1,5 @@
 // The points of one ring: read from its block, moved (rules 1 and 2), measured (rules 3 and 4), normalised
-// (rule 5), written for the host; and rule 6's grid. A ring's points stand in a slice of f64 as u, v of the
-// first, u, v of the next, and so on; a last number that is no point's is passed over.
+// (rule 5), joined by segments (rule 6), written for the host; and rule 6's grid.
 #![tactic(auto)]
 
 mod bounds;
@@ -17,6 +16,6 @@ pub use columns::column_ahead;
 pub use grid::part;
 pub use joins::is_open;
 pub use ring::{normalise, normalise_into, read, unroll};
-pub use segment::{Between, Segment};
+pub use segment::{Between, Segment, SegmentsLeft, segments};
 pub use turns::{is_number, keeps_order, turns as whole_turns};
 pub use written::{phase_angle, write};

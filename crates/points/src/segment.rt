@@ -1,4 +1,7 @@
-// What joins two points (rule 6).
+// What joins two points (rule 6), and a ring's segments, one after the other.
+ghost use Rattle.std.specs.Prelude.{◌≡◌};
+ghost use Rattle.std.specs.Iterator.{YieldsFirst, item_count};
+ghost use Rattle.points.specs.Segments.{segments, segments_left};
 
 use sheet::Point;
 
@@ -11,3 +14,52 @@ pub struct Between<A> {
 
 // Between two points of the chart.
 pub type Segment = Between<Point>;
+
+// The segments of a ring that are left: `last` goes from the point before the rest back to the ring's first, and there
+// is none where none is left.
+#[derive(Clone, Copy)]
+pub struct SegmentsLeft<'a, A> {
+    last: Option<Between<A>>,
+    rest: &'a [A],
+}
+
+impl<'a, A: Copy> Iterator for SegmentsLeft<'a, A> {
+    type Item = Between<A>;
+
+    ghost next_gives = { YieldsFirst segments_left };
+
+    ghost remaining = { item_count segments_left };
+
+    #[tactic(auto, unfolding(crate::specs::Segments::segments_left, crate::specs::Segments::segments_from))]
+    fn next(&mut self) -> Option<Between<A>> {
+        let last = self.last?;
+        match self.rest.split_first() {
+            None => self.last.take(),
+            Some((next, rest)) => {
+                self.last = Some(Between { a: *next, ..last });
+                self.rest = rest;
+                Some(Between { b: *next, ..last })
+            }
+        }
+    }
+}
+
+// The segments that join each point of the ring to the next, the last to the first.
+#[tactic(auto, unfolding(crate::specs::Segments::segments_left, crate::specs::Segments::segments))]
+pub fn segments<A: Copy>(ring: &[A]) -> SegmentsLeft<'_, A>
+    ensures { segments_left result ≡ segments ring.now }
+{
+    match ring.split_first() {
+        None => SegmentsLeft {
+            last: None,
+            rest: ring,
+        },
+        Some((first, rest)) => SegmentsLeft {
+            last: Some(Between {
+                a: *first,
+                b: *first,
+            }),
+            rest,
+        },
+    }
+}

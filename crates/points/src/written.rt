@@ -1,12 +1,14 @@
 // The points written to the output list.
 ghost use Rattle.std.specs.Prelude.{◌≡◌, map};
 ghost use Rattle.answers.specs.Lists.{over};
-ghost use Rattle.sheet.specs.Content.{flat, pairs};
+ghost use Rattle.sheet.specs.Content.{flat};
 ghost use Rattle.points.specs.Written.{phase_angle, written_point};
 
 use leaves::constants::PI;
+use sheet::Point;
 
 // The angle of the phase: 0 or PI.
+#[tactic(auto, unfolding(crate::specs::Written::phase_angle))]
 pub fn phase_angle(phase: u32) -> f64
     ensures { result ≡ phase_angle phase }
 {
@@ -15,19 +17,15 @@ pub fn phase_angle(phase: u32) -> f64
 
 // Each moved point (u, v - phase) over the front of `out`, whose tail keeps its contents; a list that is too
 // short for them stays as it is.
-pub fn write(phase: u32, points: &[f64], out: &mut [f64])
-    ensures { out.new ≡ over (flat (map (written_point phase) (pairs points.now))) out.old }
+pub fn write(phase: u32, points: &[Point], out: &mut [f64])
+    ensures { out.new ≡ over (flat (map (written_point phase) points.now)) out.old }
 {
-    let count = points.len() / 2;
-    if out.len() / 2 < count {
+    if out.len() / 2 < points.len() {
         return;
     }
     let angle = phase_angle(phase);
-    let mut k = 0;
-    while k < count {
-        let at = 2 * k;
-        out[at] = points[at];
-        out[at + 1] = points[at + 1] - angle;
-        k += 1;
+    for (k, p) in points.iter().enumerate() {
+        out[2 * k] = p.u;
+        out[2 * k + 1] = p.v - angle;
     }
 }

@@ -1,42 +1,34 @@
--- `points::joins::is_open` is `ring_open`. The invariant: what is left of the ring, from the point (u, v) on, is open
--- where the ring is.
-use mathlib.Core.Path.{sym, ◌∙◌}
-use native.Mathlib.Omega.{arith}
-use lib.Ieee.{nan}
-use Rattle.sheet.specs.Content.{point}
-use Rattle.points.proofs.Pairs.{pairs_step, pairs_end}
+-- `points::joins::is_open` is `ring_open`. The invariant: what is left of the ring is open where the ring is.
+use Rattle.std.proofs.Common.{sym, ap, ◌∙◌, arith}
+use Rattle.std.proofs.lemmas.List.{drop_more, drop_all}
+use Rattle.points.specs.Joins.{ring_open, every}
 use Rattle.points.proofs.Seams.{open_start, open_wide, open_shut, open_along, open_end, no_points_open}
 use Rattle.points.proofs.joins.is_open.Goals as goal
 use Rattle.points.proofs.joins.is_open.Goals.{then-left-eq0+else-is_wide, else-left-eq0}
 
-pub returns-then-count-eq0 : goal.returns-then-count-eq0
-returns-then-count-eq0 c = sym (no_points_open _ _ _ _ _ (pairs_end c.args.ring.now 0 (omega arith)))
+pub returns-in_default : goal.returns-in_default
+returns-in_default c = sym (no_points_open _ _ _ _ _ (drop_all 0 c.args.ring.now (omega (arith, c.in_default.ensures.cases))))
 
-pub loop-k-init : goal.loop-k-init
-loop-k-init c =
-    let l = c.args.ring.now in
-    (omega arith, rw (pairs_step l 0 nan (omega arith)) (sym (open_start _ _ _ _ _ _)))
+pub loop-p-init : goal.loop-p-init
+loop-p-init c =
+    let a = c.args in
+    sym (ap (λ ps. ring_open a.periodic a.scale.u a.scale.v (every a.more 0 ps) ps) c.in-Some.ensures.cases.0 ∙ open_start _ _ _ _ _ _)
 
 pub returns-then-is_wide : goal.returns-then-is_wide
 returns-then-is_wide c =
-    let a = c.args in
-    let i = c.loop-k in
-    sym (open_wide _ _ _ _ _ _ _ (pairs_step a.ring.now i.k nan (omega arith)) c.if-left-eq0.true (sym c.is_wide.ensures ∙ c.if-is_wide.true)) ∙ i.invariant.1
+    let i = c.loop-p in
+    sym (open_wide _ _ _ _ _ _ _ (drop_more _ i.p-index _ (omega arith)) c.if-left-eq0.true (sym c.is_wide.ensures ∙ c.if-is_wide.true)) ∙ i.invariant
 
-pub loop-k-preserved : goal.loop-k-preserved
-loop-k-preserved c =
-    let a = c.args in
-    let i = c.loop-k in
-    let e = pairs_step a.ring.now i.k nan (omega arith) in (
-      omega arith,
-      elim c.if-left-eq0.branch [
-        | then-left-eq0+else-is_wide w ↦ rw w.left-is (sym (open_shut _ _ _ _ _ _ _ e w.if-left-eq0.true (sym w.is_wide.ensures ∙ w.if-is_wide.false)) ∙ i.invariant.1)
-        | else-left-eq0 w ↦ rw w.left-is (sym (open_along _ _ _ _ _ _ _ e w.if-left-eq0.false) ∙ i.invariant.1)
-      ],
-    )
+pub loop-p-preserved : goal.loop-p-preserved
+loop-p-preserved c =
+    let i = c.loop-p in
+    let e = drop_more _ i.p-index _ (omega arith) in
+    elim c.if-left-eq0.branch [
+      | then-left-eq0+else-is_wide w ↦ rw w.left-is (sym (open_shut _ _ _ _ _ _ _ e w.if-left-eq0.true (sym w.is_wide.ensures ∙ w.if-is_wide.false)) ∙ i.invariant)
+      | else-left-eq0 w ↦ rw w.left-is (sym (open_along _ _ _ _ _ _ _ e w.if-left-eq0.false) ∙ i.invariant)
+    ]
 
 pub returns : goal.returns
 returns c =
-    let a = c.args in
-    let i = c.loop-k in
-    c.is_wide-2.ensures ∙ sym (open_end _ _ _ _ _ (point i.u i.v) i.left _ (pairs_end a.ring.now i.k (omega arith))) ∙ i.invariant.1
+    let i = c.loop-p in
+    c.is_wide-2.ensures ∙ sym (open_end _ _ _ _ _ i.before i.left _ (drop_all i.p-index _ (omega arith))) ∙ i.invariant

@@ -1,26 +1,11 @@
--- `points::ring::normalise` is `normal` on every point. The invariant: of the normalised points the first k are
--- written.
-use mathlib.Core.List.{map}
-use mathlib.Core.Path.{ap}
-use native.Mathlib.Omega.{arith}
-use lib.Ieee.{nan}
+-- `points::ring::normalise` is `normal` on every point.
+use Rattle.std.proofs.Common.{arith}
+use Rattle.std.proofs.lemmas.List.{get_or_default}
+use Rattle.std.proofs.lemmas.List.Edits.{map_over_more}
 use Rattle.points.specs.Normalise.{normal}
-use Rattle.points.proofs.InPlace.{none_written, unwritten, point_written, points_changed}
-use Rattle.points.proofs.Pairs.{pairs_end}
 use Rattle.points.proofs.ring.normalise.Goals as goal
 
-pub loop-k-init : goal.loop-k-init
-loop-k-init c = (omega arith, none_written _ _)
-
-pub loop-k-preserved : goal.loop-k-preserved
-unfolding normal
-loop-k-preserved c =
+pub loop-p-preserved : goal.loop-p-preserved
+loop-p-preserved c =
     let a = c.args in
-    let w = c.loop-k.invariant.1 in
-    (omega arith, point_written w _ _ _ (ap (map (normal a.least_u a.least_v a.scale_u a.scale_v)) (unwritten w nan (omega arith))) (omega arith))
-
-pub returns : goal.returns
-returns c =
-    let a = c.args in
-    let change = map (normal a.least_u a.least_v a.scale_u a.scale_v) in
-    points_changed change c.loop-k.invariant.1 (ap change (pairs_end a.points.now c.loop-k.k (omega arith))) (omega arith)
+    rw c.normal.ensures (map_over_more (normal a.least.u a.least.v a.scale.u a.scale.v) _ _ _ _ (omega arith) c.loop-p.invariant (get_or_default c.loop-p.points c.loop-p.p-index _ _ (omega arith)))

@@ -1,13 +1,8 @@
-use mathlib.Core.List.{map}
-use Prim.Native.Nat.{◌*◌, ◌-◌, ◌≤◌}
-use lib.ListN.{drop}
-use Rattle.sheet.specs.Content.{pairs}
+use mathlib.Core.Path.{◌≡◌}
+use mathlib.Core.List.{◌++◌, map}
+use lib.ListN.{take, drop}
 use Rattle.points.specs.Normalise.{normal}
-use Rattle.points.proofs.InPlace.{Written}
 use Rattle.points.proofs.ring.normalise.Given as goal
 
-abbrev pub invariant-loop-k : goal.invariant-loop-k
-invariant-loop-k l = (l.k ≤ l.count) × Written l.initial.points l.points l.k (map (normal l.least_u l.least_v l.scale_u l.scale_v) (pairs (drop (2 * l.k) l.initial.points))) (map (normal l.least_u l.least_v l.scale_u l.scale_v) (pairs l.initial.points))
-
-abbrev pub decreases-loop-k : goal.decreases-loop-k
-decreases-loop-k l = l.count - l.k
+abbrev pub invariant-loop-p : goal.invariant-loop-p
+invariant-loop-p l = l.points ≡ map (normal l.least.u l.least.v l.scale.u l.scale.v) (take l.p-index l.initial.points) ++ drop l.p-index l.initial.points

@@ -10,16 +10,16 @@ pub returns-then-points-count : goal.returns-then-points-count
 returns-then-points-count c = ring_unread c.args.block.now c.args.points.now (omega (arith, c.byte_at-count.ensures))
 
 pub loop-k-init : goal.loop-k-init
-loop-k-init c = (omega arith, rw sub-zero (none_written _ _))
+loop-k-init c = rw sub-zero (none_written _ _)
 
 pub loop-k-preserved : goal.loop-k-preserved
 loop-k-preserved c =
     let i = c.loop-k in
     let a = c.args in
-    (omega arith, coedge_written a.block.now _ i.k _ i.invariant.1 (omega arith) (omega arith) c.read_coedge.ensures)
+    coedge_written a.block.now _ i.k _ i.invariant (omega arith) (omega arith) c.read_coedge.ensures
 
 pub returns : goal.returns
 returns c =
     let a = c.args in
     let i = c.loop-k in
-    ring_read a.block.now _ i.k i.invariant.1 (ring_end _ _ i.k (omega arith)) c.byte_at-count.ensures (omega arith) (omega arith)
+    ring_read a.block.now _ i.k i.invariant (ring_end _ _ i.k (omega arith)) c.byte_at-count.ensures (omega arith) (omega arith)

@@ -1,4 +1,4 @@
-use Prim.Native.Nat.{◌+◌, ◌*◌, ◌-◌, ◌≤◌}
+use Prim.Native.Nat.{◌+◌, ◌*◌, ◌-◌}
 use lib.ListN.{drop}
 use Rattle.sheet.specs.Content.{ring_points}
 use Rattle.sheet.specs.Layout.{coedges}
@@ -6,7 +6,4 @@ use Rattle.points.proofs.InPlace.{Written}
 use Rattle.points.proofs.ring.read.Given as goal
 
 abbrev pub invariant-loop-k : goal.invariant-loop-k
-invariant-loop-k l = (l.k ≤ l.count) × Written l.initial.points l.points (17 * l.k) (ring_points (coedges (l.count - l.k) (drop (1 + 280 * l.k) l.block))) (ring_points (coedges l.count (drop 1 l.block)))
-
-abbrev pub decreases-loop-k : goal.decreases-loop-k
-decreases-loop-k l = l.count - l.k
+invariant-loop-k l = Written l.initial.points l.points (17 * l.k) (ring_points (coedges (l.count - l.k) (drop (1 + 280 * l.k) l.block))) (ring_points (coedges l.count (drop 1 l.block)))

@@ -1,33 +1,31 @@
--- `points::ring::unroll` moves every point. The invariant: of the moved points the first k are written, and the last of
--- them is (u, v).
-use mathlib.Core.Path.{ap}
-use native.Mathlib.Omega.{arith}
+-- `points::ring::unroll` moves every point. The invariant: of the moved points the first are written, and the last of
+-- them is `previous`.
+use Rattle.std.proofs.Common.{◌≡◌, [], refl, ap, map, arith}
 use lib.Ieee.{nan}
-use lib.ListN.{length-set}
-use Rattle.points.specs.Unroll.{unrolled, moved_ring}
-use Rattle.points.proofs.InPlace.{none_written, points_changed}
-use Rattle.points.proofs.Pairs.{pairs_end}
-use Rattle.points.proofs.Unrolling.{first_unrolled, next_unrolled, all_unrolled}
+use Rattle.std.proofs.lemmas.List.{drop_all}
+use Rattle.sheet.specs.Content.{point}
+use Rattle.points.specs.Unroll.{wrapped, follow, unrolled, moved_ring}
+use Rattle.points.proofs.InPlace.{none_written, unwritten, item_written, all_filled}
 use Rattle.points.proofs.ring.unroll.Goals as goal
 
-pub returns-then-count-eq0 : goal.returns-then-count-eq0
+pub returns-in_default : goal.returns-in_default
 unfolding moved_ring unrolled
-returns-then-count-eq0 c =
-    let a = c.args in
-    points_changed (moved_ring a.kind a.phase) (none_written a.points.now _) (ap (moved_ring a.kind a.phase) (pairs_end a.points.now 0 (omega arith))) (omega arith)
+returns-in_default c = let none : c.args.points.now ≡ [] = drop_all 0 c.args.points.now (omega (arith, c.in_default.ensures.cases)) in rw none refl
 
-pub loop-k-init : goal.loop-k-init
-loop-k-init c =
-    let a = c.args in
-    (omega arith, simp length-set, first_unrolled a.points.now _ nan _ (omega arith))
+pub loop-p-init : goal.loop-p-init
+loop-p-init c = none_written _ _
 
-pub loop-k-preserved : goal.loop-k-preserved
-loop-k-preserved c =
-    let i = c.loop-k in
-    (omega arith, i.invariant.1, next_unrolled _ _ i.u i.v nan i.invariant.2 (omega arith) c.wrapped_v.ensures c.moved_u-u.ensures c.moved_v-v.ensures)
+pub loop-p-preserved : goal.loop-p-preserved
+unfolding follow
+loop-p-preserved c =
+    let i = c.loop-p in
+    let next = unwritten i.invariant (point nan nan) (omega arith) in
+    item_written i.invariant c.moved-previous.result _ (rw (next, c.moved-previous.ensures, c.wrapped-in-loop-p.ensures) refl) (omega arith)
 
 pub returns : goal.returns
+unfolding moved_ring unrolled follow
 returns c =
+    let i = c.loop-p in
     let a = c.args in
-    let i = c.loop-k in
-    all_unrolled a.kind a.phase a.points.now _ nan (omega arith) c.wrapped_v-v.ensures i.u i.v i.invariant.2 (omega arith)
+    let none = ap (λ ps. follow a.kind i.previous (map (wrapped a.phase) ps)) (drop_all i.p-index c.in-Some.rest.now (omega arith)) in
+    rw (all_filled i.invariant none (omega arith), c.wrapped.ensures, c.in-Some.ensures.cases.0) refl

@@ -1,14 +1,8 @@
-use mathlib.Core.Path.{◌≡◌}
-use mathlib.Core.List.{◌∷◌}
-use Prim.Native.Nat.{◌-◌, ◌/◌, ◌≤◌}
-use lib.ListN.{length}
-use Rattle.sheet.specs.Content.{point}
+use mathlib.Core.List.{map}
+use lib.ListN.{drop}
+use Rattle.points.specs.Unroll.{wrapped, follow}
 use Rattle.points.proofs.InPlace.{Written}
-use Rattle.points.proofs.Unrolling.{after}
 use Rattle.points.proofs.ring.unroll.Given as goal
 
-abbrev pub invariant-loop-k : goal.invariant-loop-k
-invariant-loop-k l = (l.k ≤ l.count) × (l.count ≡ length l.initial.points / 2) × Written l.initial.points l.points l.k (after l.kind l.phase l.u l.v l.k l.initial.points) (point l.initial.u l.initial.v ∷ after l.kind l.phase l.initial.u l.initial.v 1 l.initial.points)
-
-abbrev pub decreases-loop-k : goal.decreases-loop-k
-decreases-loop-k l = l.count - l.k
+abbrev pub invariant-loop-p : goal.invariant-loop-p
+invariant-loop-p l = Written l.initial.rest l.rest l.p-index (follow l.kind l.previous (map (wrapped l.phase) (drop l.p-index l.initial.rest))) (follow l.kind l.initial.previous (map (wrapped l.phase) l.initial.rest))
