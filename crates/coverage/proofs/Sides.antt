@@ -1,5 +1,5 @@
--- What an i64 is that a test or a call reads from its bits, on which side of 0 it is, and whether it is odd: its
--- remainder by 2, which has its sign, is 0 just where the magnitude's is.
+-- On which side of 0 a number is, and whether it is odd: its remainder by 2, which has its sign, is 0 just where the
+-- magnitude's is.
 use mathlib.Core.Path.{◌≡◌, refl}
 use mathlib.Core.Bool.{not}
 use Prim.Native.Nat.{ℕ, zero, suc, ◌%◌, ◌<◌}
@@ -9,12 +9,8 @@ use lib.Dec.{eqb}
 use lib.IntN.{ℤ, pos, negsuc, neg_ℤ}
 use lib.Signed.{lt_z, rem_z}
 use mir.Syntax.{w64}
-use mir.Val.{SFits, to_z, of_z}
-use mir.ValLaws.{to_z-of_z}
+use mir.Val.{of_z}
 use Rattle.coverage.specs.Coverage.{oddℤ, on_side}
-
-pub read : (n : ℤ) → SFits w64 n → to_z w64 (of_z w64 n) ≡ n
-read n h = to_z-of_z w64 n h
 
 -- ---- forward on the positive side, reversed on the negative one
 
@@ -27,6 +23,8 @@ pub reversed_side : (n : ℤ) → lt_z n (pos 0) ≡ on_side 2 n
 unfolding on_side
 reversed_side (pos n) = le-ltb n 0 (omega arith)
 reversed_side (negsuc n) = refl
+
+pub ruleset sides = (forward_side, reversed_side)
 
 -- ---- odd
 

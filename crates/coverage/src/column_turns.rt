@@ -6,7 +6,7 @@ ghost use Rattle.coverage.specs.Lines.{turn_at, Turning};
 
 use points::{column_ahead, keeps_order, part, whole_turns};
 
-// The turns of a segment with the middle mid, worked out at one column, and a column up to which they serve.
+// The turns of a segment with the middle mid, at the columns from one up to another.
 #[derive(Clone, Copy)]
 pub(crate) struct ColumnTurns {
     pub period: f64,
@@ -18,30 +18,33 @@ pub(crate) struct ColumnTurns {
 }
 
 impl ColumnTurns {
-    // Worked out at column i.
-    pub(crate) fn worked_out(period: f64, mid: f64, i: u32) -> ColumnTurns
-        requires { i ≤ 31 }
-        ensures { (result.period ≡ period) × (result.mid ≡ mid) × (result.from ≡ i) × (i ≤ result.until) }
+    // At no column yet.
+    pub(crate) fn new(period: f64, mid: f64) -> ColumnTurns
+        ensures { (result.period ≡ period) × (result.mid ≡ mid) × (result.from ≡ 1) }
     {
-        let by = turn_at(period, mid, i);
         ColumnTurns {
             period,
             mid,
-            by,
-            from: i,
-            until: turned_until(period, mid, i, by),
+            by: 0.0,
+            from: 1,
+            until: 0,
         }
     }
 
-    // At column i: those at hand where they still serve, else worked out.
-    pub(crate) fn at(self, i: u32) -> ColumnTurns
-        requires { (self.from ≤ i) × (i ≤ 31) }
-        ensures { (result.period ≡ self.period) × (result.mid ≡ self.mid) × (result.from ≤ i) × (i ≤ result.until) }
+    // Those at column i: they stay where they still serve, else they are worked out.
+    pub(crate) fn bring_to(&mut self, i: u32)
+        requires { (self.old.from ≤ i) × (i ≤ 31) }
+        ensures { (self.new.period ≡ self.old.period) × (self.new.mid ≡ self.old.mid) × (self.new.from ≤ i) × (i ≤ self.new.until) }
     {
-        if i <= self.until {
-            self
-        } else {
-            ColumnTurns::worked_out(self.period, self.mid, i)
+        if self.until < i {
+            let by = turn_at(self.period, self.mid, i);
+            *self = ColumnTurns {
+                period: self.period,
+                mid: self.mid,
+                by,
+                from: i,
+                until: turned_until(self.period, self.mid, i, by),
+            };
         }
     }
 }

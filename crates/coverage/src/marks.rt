@@ -6,7 +6,7 @@ ghost use Rattle.coverage.specs.Coverage.{oddℤ, on_side, covered_by};
 use inside::GRID_POINTS;
 
 // Whether the crossings are odd, either sign.
-#[tactic(auto, using(crate::proofs::Sides::read, crate::proofs::Sides::odd))]
+#[tactic(auto, using(std::proofs::lemmas::Int::ints, crate::proofs::Sides::odd))]
 fn is_odd(n: i64) -> bool
     ensures { result ≡ oddℤ n }
 {
@@ -14,7 +14,7 @@ fn is_odd(n: i64) -> bool
 }
 
 // On a band: positive for sense 1, negative for sense 2, nothing for sense 0.
-#[tactic(auto, using(crate::proofs::Sides::read, crate::proofs::Sides::forward_side, crate::proofs::Sides::reversed_side), unfolding(crate::specs::Coverage::on_side))]
+#[tactic(auto, using(std::proofs::lemmas::Int::ints, crate::proofs::Sides::sides), unfolding(crate::specs::Coverage::on_side))]
 fn on_side(sense: u8, n: i64) -> bool
     ensures { result ≡ on_side sense n }
 {
@@ -26,7 +26,7 @@ fn on_side(sense: u8, n: i64) -> bool
 }
 
 // Whether a grid point with these crossings is covered.
-#[tactic(auto, using(crate::proofs::Sides::read), unfolding(crate::specs::Coverage::covered_by))]
+#[tactic(auto, using(std::proofs::lemmas::Int::ints), unfolding(crate::specs::Coverage::covered_by))]
 fn is_covered(band: bool, sense: u8, n: i64) -> bool
     ensures { result ≡ covered_by band sense n }
 {
@@ -34,7 +34,7 @@ fn is_covered(band: bool, sense: u8, n: i64) -> bool
 }
 
 // Marks each grid point that its sum of windings covers. Both lists stand in the grid's order.
-#[tactic(auto, using(crate::proofs::Sides::read, inside::proofs::Cells::none_changed, inside::proofs::Cells::cell_changed, inside::proofs::Cells::all_changed))]
+#[tactic(auto, using(std::proofs::lemmas::Int::ints, inside::proofs::Cells::cell_by_cell))]
 pub(crate) fn mark_windings(
     band: bool,
     sense: u8,
@@ -59,7 +59,7 @@ pub(crate) fn next_row(at: usize) -> usize
 
 // Marks each grid point that is covered by 1 crossing where its cell says yes, by none where it says no. The cells
 // stand row after row, the marks in the grid's order.
-#[tactic(auto, using(crate::proofs::Sides::read, inside::proofs::Cells::none_changed, inside::proofs::Cells::cell_changed, inside::proofs::Cells::all_changed))]
+#[tactic(auto, using(std::proofs::lemmas::Int::ints, inside::proofs::Cells::cell_by_cell))]
 pub(crate) fn mark_flips(
     band: bool,
     sense: u8,

@@ -2,7 +2,6 @@
 // for the column's 31 points.
 ghost use Rattle.std.specs.Prelude.{◌≡◌, cond, ℕ, ◌+◌, ◌^◌, ◌≤◌, pos, negsuc, nat_abs, ◌+ℤ◌, length, get_or};
 ghost use Rattle.std.specs.Float.Ieee.{lt};
-ghost use Rattle.sheet.specs.Content.{pairs};
 ghost use Rattle.points.specs.Grid.{part as part_of};
 ghost use Rattle.inside.specs.Lines.{Holds, by_columns};
 ghost use Rattle.coverage.specs.Coverage.{step, step_of, winding_of};
@@ -10,7 +9,7 @@ ghost use Rattle.coverage.specs.Lines.{Within};
 
 use crate::column_turns::ColumnTurns;
 use inside::{GRID_POINTS, just_one_above};
-use points::{Segment, part, whole_turns};
+use points::{Segment, part, segments, whole_turns};
 use sheet::Point;
 
 // 1 where the segment from a to b goes up in u, else -1.
@@ -21,7 +20,7 @@ fn direction(a: f64, b: f64) -> i64
 }
 
 // Adds `by` to the cells of a column that are above the threshold.
-#[tactic(auto, using(crate::proofs::Sides::read, crate::proofs::Windings::added, crate::proofs::Windings::add_none, inside::proofs::Cells::none_changed, inside::proofs::Cells::passed, inside::proofs::Cells::cell_changed, inside::proofs::Cells::all_changed))]
+#[tactic(auto, using(std::proofs::lemmas::Int::ints, inside::proofs::Cells::cell_by_cell))]
 fn add_above(threshold: f64, by: i64, column: &mut [i64])
     requires { (length column.old ≡ 31) × (nat_abs by ≤ 1) × Within (2 ^ 62) column.old }
     ensures { Holds (pos 0) 31 column.new (λ (m : ℕ). get_or column.old m (pos 0) +ℤ cond (lt threshold (part_of (m + 1))) by (pos 0)) }
@@ -35,7 +34,7 @@ fn add_above(threshold: f64, by: i64, column: &mut [i64])
 
 // Adds to a column's cells the crossings of a segment, whose b has gained its turns, at the copy w of the
 // column's u.
-#[tactic(auto, using(crate::proofs::Sides::read, crate::proofs::Windings::add_none), unfolding(crate::specs::Coverage::step))]
+#[tactic(auto, using(std::proofs::lemmas::Int::ints), unfolding(crate::specs::Coverage::step))]
 fn add_column(s: Segment, w: f64, column: &mut [i64])
     requires { (length column.old ≡ 31) × Within (2 ^ 62) column.old }
     ensures { Holds (pos 0) 31 column.new (λ (m : ℕ). get_or column.old m (pos 0) +ℤ step (part_of (m + 1)) s.a.u s.a.v s.b.u s.b.v w) }
@@ -58,9 +57,9 @@ fn add_segment(period: f64, s: Segment, cells: &mut [i64; GRID_POINTS])
         a: s.a,
         b: Point { u: far, v: s.b.v },
     };
-    let mut turns = ColumnTurns::worked_out(period, (s.a.u + far) / 2.0, 1);
+    let mut turns = ColumnTurns::new(period, (s.a.u + far) / 2.0);
     for i in 0..31u32 {
-        turns = turns.at(i + 1);
+        turns.bring_to(i + 1);
         let from = 31 * (i as usize);
         let to = from + 31;
         add_column(moved, part(i + 1) + turns.by, &mut cells[from..to]);
@@ -68,28 +67,12 @@ fn add_segment(period: f64, s: Segment, cells: &mut [i64; GRID_POINTS])
 }
 
 // Adds the winding of a ring to every cell.
-pub(crate) fn add_ring(period: f64, ring: &[f64], cells: &mut [i64; GRID_POINTS])
+#[tactic(auto, using(crate::proofs::Windings::ring_sums))]
+pub(crate) fn add_ring(period: f64, ring: &[Point], cells: &mut [i64; GRID_POINTS])
     requires { Within (2 ^ 61) cells.old }
-    ensures { Holds (pos 0) 961 cells.new (λ (k : ℕ). get_or cells.old k (pos 0) +ℤ winding_of period (by_columns k) (pairs ring.now)) }
+    ensures { Holds (pos 0) 961 cells.new (λ (k : ℕ). get_or cells.old k (pos 0) +ℤ winding_of period (by_columns k) ring.now) }
 {
-    let count = ring.len() / 2;
-    if count == 0 {
-        return;
+    for s in segments(ring) {
+        add_segment(period, s, cells);
     }
-    let first = Point {
-        u: ring[0],
-        v: ring[1],
-    };
-    let mut a = first;
-    let mut k = 1;
-    while k < count {
-        let b = Point {
-            u: ring[2 * k],
-            v: ring[2 * k + 1],
-        };
-        add_segment(period, Segment { a, b }, cells);
-        a = b;
-        k += 1;
-    }
-    add_segment(period, Segment { a, b: first }, cells);
 }

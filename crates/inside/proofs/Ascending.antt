@@ -133,6 +133,9 @@ module _ (x : Float) where
       pub below_none : count ≤ 0 → Below x count
       below_none h = record { most = none.most; is = λ m l. none.none m (omega arith) l ∙ sym (le-ltb m count (omega arith)) }
 
+-- a loop over the lines, up or down
+pub ruleset line_by_line = (none_at_end, none_above, none_lower, below_last, below_none)
+
 -- ---- the lines between two numbers
 
 between : (m p q : ℕ) → p ≤ q → xor (ltb m p) (ltb m q) ≡ leb p m && ltb m q

@@ -70,6 +70,9 @@ module _ {A : Type 0} (none : A) (size : ℕ) (change : ℕ → A → A) (old : 
     pub all_changed : size ≤ at → Holds none size l (λ (k : ℕ). change k (get_or old k none))
     all_changed h = record { count = c.count; is = λ k n. c.done k (omega arith) }
 
+-- a loop over the cells
+pub ruleset cell_by_cell = (none_changed, passed, cell_changed, all_changed)
+
 -- ---- what all cells hold is the list
 
 -- in the grid's order

@@ -1,7 +1,7 @@
 -- What an edge flips in a row. In row j + 1, where just one end is above it, the edge cuts the row at one number, and
 -- the points before that number flip; in any other row none does.
 use mathlib.Core.Path.{◌≡◌, refl}
-use mathlib.Core.Bool.{Bool, true, false, not, xor, ◌&&◌}
+use mathlib.Core.Bool.{Bool, true, false, not, beq, xor, ◌&&◌}
 use Prim.Native.Nat.{ℕ, ◌+◌, ◌-◌, ◌*◌, ◌/◌, ◌%◌, ◌<◌, ◌≤◌}
 use native.Mathlib.Omega.{arith}
 use borrow.Author.Tests.{lt-ltb, le-ltb, le-leb, lt-leb}
@@ -23,6 +23,11 @@ pub unflipped : (a : Bool) → xor a false ≡ a
 unfolding xor
 unflipped true = refl
 unflipped false = refl
+
+-- where just one of two is so
+pub differs : (a b : Bool) → not (beq a b) ≡ xor a b
+unfolding xor
+differs a b = refl
 
 -- ---- the edge from b to a
 

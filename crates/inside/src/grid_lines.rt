@@ -1,5 +1,5 @@
 // Rule 6: the grid's lines, and how many of them are below a number.
-ghost use Rattle.std.specs.Prelude.{◌≤◌};
+ghost use Rattle.std.specs.Prelude.{◌≡◌, ◌≤◌};
 ghost use Rattle.inside.specs.Lines.{NoneAfter, Below};
 
 use points::part;
@@ -13,8 +13,20 @@ pub(crate) struct Counted {
     ghost counted: { Below point.v below },
 }
 
+impl Counted {
+    // The way there from the count of a point nearby, as the one before in a ring, is short.
+    pub(crate) fn from_near(near: u32, point: Point) -> Counted
+        ensures { result.point ≡ point }
+    {
+        Counted {
+            point,
+            below: lines_below(near, point.v),
+        }
+    }
+}
+
 // The first count from `near` up after which no line is below x.
-#[tactic(auto, using(crate::proofs::Ascending::none_above, crate::proofs::Ascending::none_at_end))]
+#[tactic(auto, using(crate::proofs::Ascending::line_by_line))]
 fn raised(near: u32, x: f64) -> u32
     ensures { NoneAfter x result }
 {
@@ -28,7 +40,7 @@ fn raised(near: u32, x: f64) -> u32
 }
 
 // The first count from `most` down whose last line is below x.
-#[tactic(auto, using(crate::proofs::Ascending::none_lower, crate::proofs::Ascending::below_last, crate::proofs::Ascending::below_none))]
+#[tactic(auto, using(crate::proofs::Ascending::line_by_line))]
 fn lowered(most: u32, x: f64) -> u32
     requires { NoneAfter x most }
     ensures { Below x result }
@@ -41,8 +53,7 @@ fn lowered(most: u32, x: f64) -> u32
     0
 }
 
-// How many lines are below x: the first ones, since the lines ascend. The way there from a count
-// nearby, as that of a ring's point before, is short.
+// How many lines are below x: the first ones, since the lines ascend. It begins at a count nearby.
 pub(crate) fn lines_below(near: u32, x: f64) -> u32
     ensures { Below x result }
 {

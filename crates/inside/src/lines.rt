@@ -1,7 +1,6 @@
 // `inside` over the whole grid: what an edge does to a row is worked out once for the row's 31 points.
 ghost use Rattle.std.specs.Prelude.{◌≡◌, false, not, ℕ, length, get_or};
 ghost use Rattle.std.specs.Bool.{xor};
-ghost use Rattle.sheet.specs.Content.{pairs};
 ghost use Rattle.answers.specs.Lists.{over};
 ghost use Rattle.inside.specs.Inside.{flips, inside_of};
 ghost use Rattle.inside.specs.Lines.{Parted, Holds, by_rows, flipped_by};
@@ -15,7 +14,7 @@ use sheet::Point;
 pub const GRID_POINTS: usize = 961;
 
 // Flips every cell.
-#[tactic(auto, using(crate::proofs::Cells::none_changed, crate::proofs::Cells::cell_changed, crate::proofs::Cells::all_changed))]
+#[tactic(auto, using(crate::proofs::Cells::cell_by_cell))]
 fn flip(cells: &mut [bool])
     ensures { Holds false (length cells.old) cells.new (λ (m : ℕ). not (get_or cells.old m false)) }
 {
@@ -55,44 +54,25 @@ fn flip_edge(a: Counted, b: Counted, cells: &mut [bool; GRID_POINTS])
 }
 
 // Flips each cell whose grid point is inside the ring, row after row.
-fn flip_cells(ring: &[f64], cells: &mut [bool; GRID_POINTS])
-    ensures { Holds false 961 cells.new (λ (k : ℕ). xor (get_or cells.old k false) (inside_of (pairs ring.now) (by_rows k))) }
+#[tactic(auto, using(crate::proofs::Flips::unflipped, crate::proofs::Insides::along_ring))]
+fn flip_cells(ring: &[Point], cells: &mut [bool; GRID_POINTS])
+    ensures { Holds false 961 cells.new (λ (k : ℕ). xor (get_or cells.old k false) (inside_of ring.now (by_rows k))) }
 {
-    let count = ring.len() / 2;
-    if count == 0 {
+    let Some(last) = ring.last() else {
         return;
-    }
-    let last = count - 1;
-    let mut b_u = ring[2 * last];
-    let mut b_v = ring[2 * last + 1];
-    let mut below_b = lines_below(0, b_v);
-    let mut k = 0;
-    while k < count {
-        let a_u = ring[2 * k];
-        let a_v = ring[2 * k + 1];
-        let below_a = lines_below(below_b, a_v);
-        flip_edge(
-            Counted {
-                point: Point { u: a_u, v: a_v },
-                below: below_a,
-            },
-            Counted {
-                point: Point { u: b_u, v: b_v },
-                below: below_b,
-            },
-            cells,
-        );
-        b_u = a_u;
-        b_v = a_v;
-        below_b = below_a;
-        k += 1;
+    };
+    let mut b = Counted::from_near(0, *last);
+    for point in ring {
+        let a = Counted::from_near(b.below, *point);
+        flip_edge(a, b, cells);
+        b = a;
     }
 }
 
 // Flips, of the first 961 cells, each whose grid point is inside the ring. The cells stand row after row; those
 // behind them keep their contents, and a list of fewer stays as it is.
-pub fn flip_ring(ring: &[f64], cells: &mut [bool])
-    ensures { cells.new ≡ over (flipped_by (pairs ring.now) cells.old) cells.old }
+pub fn flip_ring(ring: &[Point], cells: &mut [bool])
+    ensures { cells.new ≡ over (flipped_by ring.now cells.old) cells.old }
 {
     if let Some(front) = cells.first_chunk_mut::<GRID_POINTS>() {
         flip_cells(ring, front);

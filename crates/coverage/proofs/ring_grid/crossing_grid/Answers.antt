@@ -6,7 +6,7 @@ use Prim.Native.Nat.{ℕ}
 use borrow.Author.Rules.{rules}
 use lib.IntN.{ℤ}
 use lib.Ieee.{Float}
-use Rattle.sheet.specs.Content.{Point, pairs}
+use Rattle.sheet.specs.Content.{Point}
 use Rattle.points.specs.Grid.{grid_point}
 use Rattle.inside.proofs.Cells.{grid_front, grid_short}
 use Rattle.coverage.specs.Coverage.{crossing}
@@ -18,16 +18,16 @@ numbers periodic period ring i j = crossing periodic period (grid_point i j) rin
 pub returns-in_default : goal.returns-in_default
 returns-in_default c =
     let x = c.args in
-    grid_short (numbers x.periodic x.period (pairs x.ring.now)) x.crossings.now c.in_default.ensures.cases
+    grid_short (numbers x.periodic x.period x.ring.now) x.crossings.now c.in_default.ensures.cases
 
 pub returns-then-periodic : goal.returns-then-periodic
 unfolding crossing
 returns-then-periodic c =
     let x = c.args in
-    grid_front (numbers x.periodic x.period (pairs x.ring.now)) x.crossings.now c.in-Some.ensures.cases (rw c.if-periodic.true (search rules))
+    grid_front (numbers x.periodic x.period x.ring.now) x.crossings.now c.in-Some.ensures.cases (rw c.if-periodic.true (search rules))
 
 pub returns-else-periodic : goal.returns-else-periodic
 unfolding crossing
 returns-else-periodic c =
     let x = c.args in
-    grid_front (numbers x.periodic x.period (pairs x.ring.now)) x.crossings.now c.in-Some.ensures.cases (rw c.if-periodic.false (search rules))
+    grid_front (numbers x.periodic x.period x.ring.now) x.crossings.now c.in-Some.ensures.cases (rw c.if-periodic.false (search rules))

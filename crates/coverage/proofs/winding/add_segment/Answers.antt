@@ -16,8 +16,8 @@ loop-i-init c =
     let x = c.args in
     record {
       added = none_changed (pos 0) 961 (plus x.period x.s) x.cells.now c.told-cells;
-      same_period = c.worked_out-turns.ensures.0;
-      same_mid = c.worked_out-turns.ensures.1;
+      same_period = c.new-turns.ensures.0;
+      same_mid = c.new-turns.ensures.1;
       at_hand = omega arith;
     }
 
@@ -38,8 +38,8 @@ loop-i-preserved c =
     let i = c.loop-i.i in
     let change = plus x.period x.s in
     let inv = c.loop-i.invariant in
-    let r = c.at-turns in
-    let copy = rw (r.ensures.0, inv.same_period, r.ensures.1, inv.same_mid) at r.result.serving (i + 1) r.ensures.2 r.ensures.3 in
+    let r = c.bring_to in
+    let copy = rw (r.ensures.0, inv.same_period, r.ensures.1, inv.same_mid) at r.new.self.serving (i + 1) r.ensures.2 r.ensures.3 in
     let column : 31 * i + 31 - 31 * i ≡ 31 = omega arith in
     record {
       added = rw column

@@ -7,7 +7,7 @@ use native.Mathlib.Omega.{arith}
 use lib.ListN.{get_or, drop}
 use lib.Seq.{get_or-take}
 use Rattle.std.specs.Array.{IsFirstChunk}
-use Rattle.sheet.specs.Content.{Point, pairs}
+use Rattle.sheet.specs.Content.{Point}
 use Rattle.answers.specs.Lists.{over}
 use Rattle.answers.proofs.Over.{over_short, over_room}
 use Rattle.inside.specs.Inside.{inside_of}
@@ -23,10 +23,10 @@ front_flipped ring cells front ys first new =
     rw (e, over_room (flipped_by ring cells) cells (omega (arith, flipped_length ring cells)), flipped_length ring cells)
 
 pub returns-in-Some : goal.returns-in-Some
-returns-in-Some c = front_flipped (pairs c.args.ring.now) c.args.cells.now c.in-Some.front.now _ c.in-Some.ensures.cases c.flip_cells.ensures
+returns-in-Some c = front_flipped c.args.ring.now c.args.cells.now c.in-Some.front.now _ c.in-Some.ensures.cases c.flip_cells.ensures
 
 pub returns-in_default : goal.returns-in_default
 returns-in_default c =
     let x = c.args in
     let short = c.in_default.ensures.cases in
-    sym (over_short (flipped_by (pairs x.ring.now) x.cells.now) x.cells.now (omega (arith, flipped_length (pairs x.ring.now) x.cells.now)))
+    sym (over_short (flipped_by x.ring.now x.cells.now) x.cells.now (omega (arith, flipped_length x.ring.now x.cells.now)))
