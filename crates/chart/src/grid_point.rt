@@ -8,7 +8,7 @@ ghost use Rattle.chart.specs.Found.{found_of};
 
 use crate::choice::chosen;
 use answers::Refusal;
-use frame::Frame;
+use frame::{Frame, Rings};
 use leaves::constants::CLEARANCE_LIMIT;
 use search::Candidate;
 use sheet::Point;
@@ -45,7 +45,7 @@ pub fn find(
     ensures { (numbered result ≡ found_of (fitting (sheet_of s.now) (length points.old) (length ends.old)) (sheet_of s.now) phase) × (points.new ≡ laid_points (fitting (sheet_of s.now) (length points.old) (length ends.old)) (sheet_of s.now) phase points.old) × (ends.new ≡ laid_ends (fitting (sheet_of s.now) (length points.old) (length ends.old)) (sheet_of s.now) phase ends.old) }
 {
     let frame = frame::lay_out(s, phase, points, ends)?;
-    let best = chosen(frame, sheet::byte_at(s, 6), points, ends);
+    let best = chosen(frame, sheet::byte_at(s, 6), Rings { points, ends });
     if CLEARANCE_LIMIT < best.clearance {
         Ok(Found { frame, best })
     } else {
