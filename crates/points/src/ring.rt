@@ -1,7 +1,7 @@
 // A ring's points: read from the block, moved in place (rules 1 and 2), normalised in place or into another list
 // (rule 5).
 ghost use Rattle.std.specs.Prelude.{◌≡◌, map, length};
-ghost use Rattle.sheet.specs.Content.{point, ring_points};
+ghost use Rattle.sheet.specs.Content.{ring_points};
 ghost use Rattle.answers.specs.Lists.{over};
 ghost use Rattle.sheet.specs.Layout.{coedge, ring};
 ghost use Rattle.points.specs.Unroll.{near, wrapped, moved, moved_ring};
