@@ -6,7 +6,7 @@ use Prim.Native.Nat.{ℕ}
 use lib.Dec.{eqb}
 use Rattle.std.proofs.Common.{rules}
 use Rattle.std.specs.Prelude.{Result, Ok, Err, is_ok}
-use Rattle.answers.specs.Outcome.{Numbers, refused, number_of}
+use Rattle.answers.specs.Outcome.{Numbers, refused, number_of, status_of}
 use Rattle.answers.specs.Answers.{paper_by}
 use Rattle.answers.specs.declared.refusal.Refusal.{Refusal}
 
@@ -17,6 +17,10 @@ some_number r = search rules
 pub not_zero : (r : Refusal) → number_of r ≡ 0 → ⊥
 unfolding number_of
 not_zero r e = search rules
+
+pub refused_somewhere : (A : Type 0) (r : Refusal) → status_of {A = A} (Err r) ≡ 0 → ⊥
+unfolding status_of
+refused_somewhere A r e = not_zero r e
 
 module _ {A : Type 0} (numbers : A → Numbers) where
   pub paper_ok : (x : A) → paper_by numbers (Ok x) ≡ numbers x

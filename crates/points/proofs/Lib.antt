@@ -25,3 +25,4 @@ pub mod WholeTurns
 pub mod ColumnOrder
 -- the grid's order
 pub mod GridOrder
+pub mod Halving

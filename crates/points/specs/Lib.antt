@@ -5,4 +5,5 @@ pub mod Joins
 pub mod Normalise
 pub mod Segments
 pub mod Grid
+pub mod Columns
 pub mod Written

@@ -3,6 +3,7 @@
 #![tactic(auto)]
 
 mod bounds;
+mod columns;
 mod grid;
 mod joins;
 mod ring;
@@ -11,6 +12,7 @@ mod turns;
 mod written;
 
 pub use bounds::{Box, box_of, goes_around};
+pub use columns::column_ahead;
 pub use grid::part;
 pub use joins::is_open;
 pub use ring::{normalise, normalise_into, read, unroll};
