@@ -7,10 +7,9 @@ use Rattle.vertex_fallback.specs.declared.corners.Corners.{Corners}
 use Rattle.vertex_fallback.specs.declared.corners.Places.{Places}
 use Rattle.vertex_fallback.specs.Vertices.{corners_from}
 
-unfoldable pub places_left : Places → List Place
+abbrev pub places_left : Places → List Place
 places_left it = triples it.list.now
 
 -- none where it has given the last, which has the first place after it
 unfoldable pub corners_left : Corners → List Corner
-unfolding places_left
 corners_left it = elim it.last [ None ↦ [] | Some last ↦ corners_from last.after last.before last.here (places_left it.rest) ]

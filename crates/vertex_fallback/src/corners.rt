@@ -68,7 +68,7 @@ impl<'a> Iterator for Places<'a> {
 
     ghost remaining = { item_count places_left };
 
-    #[tactic(auto, unfolding(crate::specs::Left::places_left, space::specs::Places::triples))]
+    #[tactic(auto, unfolding(space::specs::Places::triples))]
     fn next(&mut self) -> Option<Place> {
         let [x, y, z, rest @ ..] = self.list else {
             return None;
@@ -115,14 +115,14 @@ impl<'a> Iterator for Corners<'a> {
 
 // The last of a place and those after it.
 fn last_of(first: Place, rest: Places) -> Place
-    ensures { result ≡ last_of first (places_left rest) }
+    ensures { result ≡ last_of first (places_left rest.entry) }
 {
     rest.last().unwrap_or(first)
 }
 
 impl<'a> Corners<'a> {
     // The corners of the ring whose places stand in the list.
-    #[tactic(auto, unfolding(crate::specs::Left::corners_left, crate::specs::Left::places_left, crate::specs::Vertices::corners_of))]
+    #[tactic(auto, unfolding(crate::specs::Left::corners_left, crate::specs::Vertices::corners_of))]
     pub(crate) fn around(list: &'a [f64]) -> Corners<'a>
         ensures { corners_left result ≡ corners_of (triples list.now) }
     {

@@ -1,9 +1,8 @@
 // The vertex fallback of faces.rs, on planes: the centre of the first corner and its two neighbours that
 // lies inside the ring of all corners.
-ghost use Rattle.std.specs.Prelude.{map, ◌≡◌, ◌*◌, ◌/◌, length};
+ghost use Rattle.std.specs.Prelude.{map, ◌≡◌, ◌/◌, length};
 ghost use Rattle.std.specs.List.{find};
 ghost use Rattle.space.specs.Places.{triples};
-ghost use Rattle.sheet.specs.Content.{pairs, flat as flat_of};
 ghost use Rattle.answers.specs.Answers.{position_paper};
 ghost use Rattle.vertex_fallback.specs.Vertices.{vertices_wrong, corners_wrong, flattened, serves_of, first_serving, corners_of, point_among, point_on_of};
 
@@ -14,9 +13,6 @@ use space::Place;
 
 // As document 01 limits them.
 const MOST_CORNERS: usize = 128;
-
-// Two numbers a corner.
-const MOST_FLAT: usize = 256;
 
 // 16: a number of the three lists is missing or beyond 2^20.
 #[tactic(auto, unfolding(crate::specs::Vertices::vertices_wrong))]
@@ -58,41 +54,43 @@ impl Axes {
 
     // Whether the centre of the corner serves: it is not degenerate, and the centre lies inside the ring.
     #[tactic(auto, unfolding(crate::specs::Vertices::serves_of))]
-    fn serves(self, ring: &[f64], corner: Corner) -> bool
-        ensures { result ≡ serves_of self.u self.v (pairs ring.now) corner }
+    fn serves(self, ring: &[Point], corner: Corner) -> bool
+        ensures { result ≡ serves_of self.u self.v ring.now corner }
     {
-        let p = self.flattened(corner.centre());
-        !corner.is_degenerate() && inside::inside(ring, p.u, p.v)
+        !corner.is_degenerate() && inside::inside(ring, self.flattened(corner.centre()))
     }
 
     // The corners on the axes, over a list that has room for just them.
-    fn flatten(self, corners: &[f64], ring: &mut [f64])
-        requires { length ring.old ≡ 2 * (length corners.now / 3) }
-        ensures { ring.new ≡ flat_of (map (flattened self.u self.v) (triples corners.now)) }
+    fn flatten(self, corners: &[f64], ring: &mut [Point])
+        requires { length ring.old ≡ length corners.now / 3 }
+        ensures { ring.new ≡ map (flattened self.u self.v) (triples corners.now) }
     {
-        for (k, place) in (Places { list: corners }).enumerate() {
-            let p = self.flattened(place);
-            ring[2 * k] = p.u;
-            ring[2 * k + 1] = p.v;
+        let mut places = Places { list: corners };
+        for p in ring.iter_mut() {
+            if let Some(place) = places.next() {
+                *p = self.flattened(place);
+            }
         }
     }
 
     // The first corner that serves.
-    fn first_corner(self, places: &[f64], ring: &[f64]) -> Option<Corner>
-        ensures { result ≡ find (serves_of self.u self.v (pairs ring.now)) (corners_of (triples places.now)) }
+    fn first_corner(self, corners: &[f64], ring: &[Point]) -> Option<Corner>
+        ensures { result ≡ find (serves_of self.u self.v ring.now) (corners_of (triples corners.now)) }
     {
-        Corners::around(places).find(|corner| self.serves(ring, *corner))
+        Corners::around(corners).find(|corner| self.serves(ring, *corner))
     }
 
     // The answer, over a list that has room for just the corners on the axes; 21: none serves.
-    #[tactic(auto, unfolding(crate::specs::Vertices::point_among))]
-    fn point_among(self, corners: &[f64], ring: &mut [f64]) -> Result<Place, Refusal>
-        requires { length ring.old ≡ 2 * (length corners.now / 3) }
+    #[tactic(auto, using(crate::proofs::Serving::found, crate::proofs::Serving::none_found), unfolding(crate::specs::Vertices::point_among, answers::specs::Answers::paper_by, answers::specs::Outcome::number_of))]
+    fn point_among(self, corners: &[f64], ring: &mut [Point]) -> Result<Place, Refusal>
+        requires { length ring.old ≡ length corners.now / 3 }
         ensures { position_paper result ≡ point_among self.u self.v (triples corners.now) }
     {
         self.flatten(corners, ring);
-        let corner = self.first_corner(corners, ring).ok_or(Refusal::NoneServes)?;
-        Ok(corner.centre())
+        match self.first_corner(corners, ring) {
+            None => Err(Refusal::NoneServes),
+            Some(corner) => Ok(corner.centre()),
+        }
     }
 }
 
@@ -112,6 +110,6 @@ pub fn point_on(u_axis: &[f64], normal: &[f64], corners: &[f64]) -> Result<Place
         u,
         v: space::cross(space::place_at(normal, 0), u),
     };
-    let mut ring = [0.0; MOST_FLAT];
-    axes.point_among(corners, &mut ring[..2 * (corners.len() / 3)])
+    let mut ring = [Point { u: 0.0, v: 0.0 }; MOST_CORNERS];
+    axes.point_among(corners, &mut ring[..corners.len() / 3])
 }
