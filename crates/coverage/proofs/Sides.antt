@@ -10,6 +10,7 @@ use lib.IntN.{ℤ, pos, negsuc, neg_ℤ}
 use lib.Signed.{lt_z, rem_z}
 use mir.Syntax.{w64}
 use mir.Val.{of_z}
+use Rattle.std.proofs.lemmas.Int.{ints}
 use Rattle.coverage.specs.Coverage.{oddℤ, on_side}
 
 -- ---- forward on the positive side, reversed on the negative one
@@ -24,7 +25,7 @@ unfolding on_side
 reversed_side (pos n) = le-ltb n 0 (omega arith)
 reversed_side (negsuc n) = refl
 
-pub ruleset sides = (forward_side, reversed_side)
+pub ruleset sides = (ints, forward_side, reversed_side)
 
 -- ---- odd
 

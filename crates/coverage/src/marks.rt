@@ -14,7 +14,7 @@ fn is_odd(n: i64) -> bool
 }
 
 // On a band: positive for sense 1, negative for sense 2, nothing for sense 0.
-#[tactic(auto, using(std::proofs::lemmas::Int::ints, crate::proofs::Sides::sides), unfolding(crate::specs::Coverage::on_side))]
+#[tactic(auto, using(crate::proofs::Sides::sides), unfolding(crate::specs::Coverage::on_side))]
 fn on_side(sense: u8, n: i64) -> bool
     ensures { result ≡ on_side sense n }
 {
@@ -49,7 +49,8 @@ pub(crate) fn mark_windings(
 }
 
 // The place, where a row's points stand side by side, of the grid point after the one in place `at`: a
-// row further, and after the last row in the first one again, a point further.
+// row further, and after the last row in the first one again, a point further. Each place worked out by divisions,
+// as `in_rows` has it, makes a small plane's grid a quarter slower.
 pub(crate) fn next_row(at: usize) -> usize
     requires { at < 961 }
     ensures { (k : ℕ) → k < 961 → at ≡ in_rows k → result ≡ in_rows (k + 1) }

@@ -18,7 +18,8 @@ pub fn clear(numbers: &mut [i64])
     numbers.fill(0);
 }
 
-// 1 for each cell that says yes and 0 for any other, from rows into the grid's order.
+// 1 for each cell that says yes and 0 for any other, from rows into the grid's order. `mark_flips` goes so, too: one
+// function for both would take what becomes of a cell as a closure, and say of the numbers only what it may have given.
 #[tactic(auto, using(inside::proofs::Cells::cell_by_cell))]
 fn count_cells(cells: &[bool; GRID_POINTS], crossings: &mut [i64; GRID_POINTS])
     ensures { Holds (pos 0) 961 crossings.new (λ (k : ℕ). cond (get_or cells.now (in_rows k) false) (pos 1) (pos 0)) }
@@ -48,7 +49,8 @@ fn winding_grid(period: f64, ring: &[Point], crossings: &mut [i64; GRID_POINTS])
 }
 
 // The ring's crossings at every grid point, in the grid's order, over the front of `crossings`, whose tail keeps its
-// contents; a list that is too short for them stays as it is.
+// contents; a list that is too short for them stays as it is. The period stands beside `periodic` and is no option: a
+// frame has one on every chart, and `crossing` of the definitions takes both.
 pub fn crossing_grid(periodic: bool, period: f64, ring: &[Point], crossings: &mut [i64])
     ensures { crossings.new ≡ over (grid_of (λ (i j : ℕ). crossing periodic period (grid_point i j) ring.now)) crossings.old }
 {

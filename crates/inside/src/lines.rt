@@ -10,7 +10,7 @@ use crate::point_in_ring::cut;
 use points::{Segment, part};
 use sheet::Point;
 
-// The number of grid points.
+// The number of grid points. Cells and sums stand in arrays of so many: there is no heap.
 pub const GRID_POINTS: usize = 961;
 
 // Flips every cell.
