@@ -2,6 +2,8 @@
 ghost use Rattle.std.specs.Prelude.{◌≡◌, ◌+◌, ◌<◌, ◌≤◌, length, get_or, take, drop};
 ghost use Rattle.sheet.specs.Layout.{big, number as number_at, number_of, head_size, block_size};
 
+use std::num::f64_from_bits_with_nan;
+
 // Ring blocks of a sheet, and coedges of all of them together, at most.
 pub const MOST_RINGS: usize = 16;
 
@@ -39,16 +41,15 @@ pub(crate) fn word(s: &[u8]) -> u32
     u32::from_be_bytes([s[0], s[1], s[2], s[3]])
 }
 
-// The f64 of these bits; -0 as +0. from_bits takes no NaN's pattern, so a NaN is made anew.
+// The f64 of these bits; -0 as +0.
+#[tactic(auto, unfolding(crate::specs::Layout::number_of))]
 fn float(bits: u64) -> f64
     ensures { result ≡ number_of bits }
 {
     if bits % 0x8000_0000_0000_0000 == 0 {
         0.0
-    } else if 0x7FF0_0000_0000_0000 < bits % 0x8000_0000_0000_0000 {
-        0.0 / 0.0
     } else {
-        f64::from_bits(bits)
+        f64_from_bits_with_nan(bits)
     }
 }
 
