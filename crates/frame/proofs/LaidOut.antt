@@ -1,7 +1,7 @@
 -- The seam: lists of the sheet's size are laid out, and the frame stands where no check of 11 to 13 fails; and what a
 -- caller reads in its answer.
 use mathlib.Core.Path.{◌≡◌, refl, sym, ap, ◌∙◌}
-use mathlib.Core.Bool.{Bool, true, false, not, cond, ◌&&◌}
+use mathlib.Core.Bool.{Bool, true, false, not, cond}
 use mathlib.Core.List.{List, flatten}
 use Prim.Native.Nat.{ℕ, ◌≤◌}
 use native.Mathlib.Omega.{arith}
@@ -9,6 +9,7 @@ use borrow.Author.Tests.{eq-eqb, eqb-true, le-leb, leb-true}
 use lib.Dec.{eqb}
 use lib.ListN.{length}
 use Rattle.std.specs.Prelude.{Result, Ok, Err}
+use Rattle.std.proofs.lemmas.Bool.{and_parts}
 use Rattle.answers.specs.Outcome.{check, first, number_of, numbered, settle}
 use Rattle.answers.specs.declared.refusal.Refusal.{Refusal}
 use Rattle.answers.specs.declared.refusal.Refusal.TheVariants.{Room}
@@ -23,13 +24,6 @@ use Rattle.frame.specs.declared.framing.Frame.{Frame}
 
 -- ---- lists of the sheet's size
 
-both : (a b : Bool) → (a && b) ≡ true → (a ≡ true) × (b ≡ true)
-both true b e = (refl, e)
-both false b e = absurd (true_is_not e)
-  where
-    true_is_not : ◌≡◌ {A = Bool} false true → ⊥
-    true_is_not h = let z : ◌≡◌ {A = ℕ} 0 1 = cc in omega arith
-
 pub record Fitting (s : Sheet) (points ends : ℕ) : Type 0 where
   pub points_are : points ≡ point_count s
   pub ends_are : ends ≡ length s.rings
@@ -38,8 +32,8 @@ pub record Fitting (s : Sheet) (points ends : ℕ) : Type 0 where
 pub fitting_is : (s : Sheet) (points ends : ℕ) → fitting s points ends ≡ true → Fitting s points ends
 unfolding fitting
 fitting_is s points ends e =
-    let p = both (eqb points (point_count s)) _ e in
-    let q = both (eqb ends (length s.rings)) _ p.1 in
+    let p = and_parts (eqb points (point_count s)) _ e in
+    let q = and_parts (eqb ends (length s.rings)) _ p.1 in
     record { points_are = eqb-true points (point_count s) p.0; ends_are = eqb-true ends (length s.rings) q.0; most = leb-true points 2176 q.1 }
 
 pub is_fitting : (s : Sheet) (points ends : ℕ) → points ≡ point_count s → ends ≡ length s.rings → points ≤ 2176 → fitting s points ends ≡ true

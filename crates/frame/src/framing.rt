@@ -50,6 +50,7 @@ fn capped(periodic: bool, scale: f64) -> f64
 }
 
 // The frame of the points of all rings together.
+#[tactic(auto, unfolding(crate::specs::Frame::framed, crate::specs::Frame::boxed, crate::specs::Frame::spread, points::specs::Bounds::box_of))]
 fn framed_by(periodic: bool, band: bool, points: &[Point]) -> Frame
     ensures { result ≡ framed periodic band points.now }
 {
@@ -101,6 +102,7 @@ fn joins_open(frame: Frame, rings: Rings) -> bool
 }
 
 // Checks 11 to 13 in a frame: the first that fails.
+#[tactic(auto, unfolding(crate::specs::Framing::join_rows, answers::specs::Outcome::first, answers::specs::Outcome::status_of, answers::specs::Outcome::number_of))]
 pub(crate) fn check_joins(frame: Frame, rings: Rings) -> Result<(), Refusal>
     ensures { status_of result ≡ first (join_rows frame (open_every frame (rings_in rings.entry))) }
 {
