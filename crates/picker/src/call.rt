@@ -34,7 +34,13 @@ fn answer_at(is_close: bool, p: Place, best: Candidate) -> Answer
 
 // Image pick of what passes the checks down to 10. `moved` has room for just the moved points, and `ends` for
 // the rings' ends.
-fn image_over(s: &[u8], phase: u32, images: &[f64], moved: &mut [Point], ends: &mut [usize]) -> Answer
+fn image_over(
+    s: &[u8],
+    phase: u32,
+    images: &[f64],
+    moved: &mut [Point],
+    ends: &mut [usize],
+) -> Answer
     requires { ImagePassed s.now phase images.now × (length moved.old ≡ point_count (sheet_of s.now)) × (length ends.old ≡ ring_count s.now) }
     ensures { paper result ≡ image_pick_of s.now phase images.now }
 {
