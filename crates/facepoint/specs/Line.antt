@@ -1,10 +1,12 @@
 -- Document 01, "prints status, x, y, z, clearance (f64 bits, 16 hexadecimal digits) and count (decimal); a refusal
 -- prints its number only".
-use Rattle.std.specs.Prelude.{List, ℕ}
-use Rattle.answers.specs.declared.outcomes.Answer.{Answer}
-use Rattle.answers.specs.declared.outcomes.Answer.TheVariants.{Point, Refused}
+use Rattle.std.specs.Prelude.{List, ℕ, Result, Ok, Err}
+use Rattle.answers.specs.Outcome.{number_of}
+use Rattle.answers.specs.declared.outcomes.Values.{Values}
+use Rattle.answers.specs.declared.refusal.Refusal.{Refusal}
 use Rattle.text.specs.Line.{point_line, refusal_line}
 
-unfoldable pub line_of : Answer → List ℕ
-line_of (Point x y z clearance count) = point_line x y z clearance count
-line_of (Refused number) = refusal_line number
+unfoldable pub line_of : Result Values Refusal → List ℕ
+unfolding number_of
+line_of (Ok v) = point_line v.x v.y v.z v.clearance v.count
+line_of (Err r) = refusal_line (number_of r)

@@ -4,13 +4,13 @@
 // said on standard error, and the program then ends with status 1.
 #![tactic(auto)]
 
-ghost use Rattle.std.specs.Prelude.{◌≡◌, eqb, length, take};
+ghost use Rattle.std.specs.Prelude.{◌≡◌, length, take};
 ghost use Rattle.text.specs.Page.{IsPrefixLen};
-ghost use Rattle.answers.specs.Answers.{paper, is_point};
+ghost use Rattle.answers.specs.Answers.{paper};
 ghost use Rattle.facepoint.specs.Answer.{answer_to};
 ghost use Rattle.facepoint.specs.Line.{line_of};
 
-use answers::Answer;
+use answers::{Answer, Refusal};
 use cases::read_full;
 use std::io::{self, Read};
 use std::process::ExitCode;
@@ -35,12 +35,12 @@ enum Failure {
 }
 
 // The plane pick of the input, or 1 where it is too long.
-#[tactic(auto, using(crate::proofs::Lines::refused), unfolding(crate::specs::Answer::answer_to))]
+#[tactic(auto, unfolding(crate::specs::Answer::answer_to, answers::specs::Answers::paper_by, answers::specs::Outcome::number_of))]
 fn answer_to(input: &[u8]) -> Answer
-    ensures { (paper result ≡ answer_to input.now) × (is_point result ≡ eqb (paper result).status 0) }
+    ensures { paper result ≡ answer_to input.now }
 {
     if MOST_BYTES < input.len() {
-        return Answer::Refused(1);
+        return Err(Refusal::Length);
     }
     picker::plane_pick(input)
 }
@@ -53,10 +53,8 @@ fn put_line(answer: Answer, page: &mut [u8]) -> usize
     ensures page_after { take result page.new ≡ line_of answer }
 {
     match answer {
-        Answer::Point(x, y, z, clearance, count) => {
-            text::point_line(x, y, z, clearance, count, 0, page)
-        }
-        Answer::Refused(number) => text::refusal_line(number, 0, page),
+        Ok(v) => text::point_line(v.x, v.y, v.z, v.clearance, v.count, 0, page),
+        Err(refusal) => text::refusal_line(u32::from(refusal), 0, page),
     }
 }
 

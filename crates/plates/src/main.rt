@@ -68,10 +68,8 @@ fn put_answer(answer: Answer, page: &mut [u8]) -> usize
     ensures { IsPrefixLen result page.new }
 {
     match answer {
-        Answer::Point(x, y, z, clearance, count) => {
-            text::put_point(x, y, z, clearance, count, 0, page)
-        }
-        Answer::Refused(number) => text::put_decimal(number, 0, page),
+        Ok(v) => text::put_point(v.x, v.y, v.z, v.clearance, v.count, 0, page),
+        Err(refusal) => text::put_decimal(u32::from(refusal), 0, page),
     }
 }
 

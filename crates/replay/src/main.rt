@@ -22,7 +22,7 @@
 ghost use Rattle.std.specs.Prelude.{◌≡◌, ◌+◌, ◌<◌, ◌≤◌};
 ghost use Rattle.replay.specs.Recorded.{recorded};
 
-use answers::{Answer, of_direction, of_middle, of_parameter, of_position};
+use answers::{Answer, IntoValues, Refusal, Values};
 use cases::{Head, MOST_BYTES, MOST_PLACES, RecordError, UNWRITTEN, is_shown, u32_at, u64_at};
 use std::fs;
 use std::io::{self, Read};
@@ -72,23 +72,26 @@ impl Tally {
     }
 }
 
-// The six numbers of an answer; those beside a refusal's are 0.
-#[derive(Clone, Copy, Default)]
-struct Numbers {
-    status: u32,
-    x: f64,
-    y: f64,
-    z: f64,
-    clearance: f64,
-    count: u32,
+// What stands beside a refusal.
+const ZEROS: Values = Values {
+    x: 0.0,
+    y: 0.0,
+    z: 0.0,
+    clearance: 0.0,
+    count: 0,
+};
+
+// The answer of a call as the five numbers beside a status.
+fn as_values<T: IntoValues>(answer: Result<T, Refusal>) -> Answer {
+    answer.map(|value| value.into_values())
 }
 
 // Whether the recorded answer has these numbers.
 #[tactic(auto, unfolding(crate::specs::Recorded::recorded))]
-fn is_recorded(answer: &[u8; 40], given: Numbers) -> bool
-    ensures { result ≡ recorded answer.now given.status given.x given.y given.z given.clearance given.count }
+fn is_recorded(answer: &[u8; 40], status: u32, given: Values) -> bool
+    ensures { result ≡ recorded answer.now status given.x given.y given.z given.clearance given.count }
 {
-    u32_at(answer, 0) == given.status
+    u32_at(answer, 0) == status
         && u32_at(answer, 36) == given.count
         && is_shown(given.x, u64_at(answer, 4))
         && is_shown(given.y, u64_at(answer, 12))
@@ -99,29 +102,13 @@ fn is_recorded(answer: &[u8; 40], given: Numbers) -> bool
 impl Left {
     // What a record showed whose answer has these bytes.
     fn held_against(self, answer: &[u8; 40]) -> Outcome {
-        let (is_point, given) = match self.answer {
-            Answer::Point(x, y, z, clearance, count) => (
-                true,
-                Numbers {
-                    status: 0,
-                    x,
-                    y,
-                    z,
-                    clearance,
-                    count,
-                },
-            ),
-            Answer::Refused(status) => (
-                false,
-                Numbers {
-                    status,
-                    ..Numbers::default()
-                },
-            ),
+        let (status, given) = match self.answer {
+            Ok(values) => (0, values),
+            Err(refusal) => (u32::from(refusal), ZEROS),
         };
         Outcome {
-            is_point,
-            is_right: self.is_list_right && is_recorded(answer, given),
+            is_point: self.answer.is_ok(),
+            is_right: self.is_list_right && is_recorded(answer, status, given),
         }
     }
 }
@@ -286,16 +273,16 @@ fn is_picker_run(rt: &(impl Files + Print + Eprint)) -> bool {
 // Replays the calls after the picker.
 fn is_after_run(rt: &(impl Files + Print + Eprint)) -> bool {
     let sample_parameter = is_run_with_front(rt, "sample_parameter", |_, n, list| match list {
-        [a, b] => Ok(of_parameter(steps::sample_parameter(*a, *b, n))),
+        [a, b] => Ok(as_values(steps::sample_parameter(*a, *b, n))),
         _ => Err(RecordError::Broken),
     });
     let direction = is_run_with_front(rt, "direction", |_, _, points| {
-        Ok(of_direction(steps::edge_direction(points)))
+        Ok(as_values(steps::edge_direction(points)))
     });
     let triangle = is_run_with_front(rt, "spherical_triangle", |centre, sense, list| match list {
         [radius, sides @ ..] => {
             let answer = triangle::spherical_triangle_of(centre, *radius, sense, sides);
-            Ok(of_position(answer))
+            Ok(as_values(answer))
         }
         [] => Err(RecordError::Broken),
     });
@@ -303,13 +290,13 @@ fn is_after_run(rt: &(impl Files + Print + Eprint)) -> bool {
         let (axis, normal) = front
             .split_at_checked(n as usize)
             .ok_or(RecordError::Broken)?;
-        Ok(of_position(vertex_fallback::point_on(axis, normal, corners)))
+        Ok(as_values(vertex_fallback::point_on(axis, normal, corners)))
     });
     let cylinder_point = is_run_with_front(rt, "cylinder_point", |heights, _, angles| {
-        Ok(of_middle(round_fallback::cylinder_point(heights, angles)))
+        Ok(as_values(round_fallback::cylinder_point(heights, angles)))
     });
     let placed = is_run_with_front(rt, "placed", |transform, _, point| {
-        Ok(of_position(steps::placed(transform, point)))
+        Ok(as_values(steps::placed(transform, point)))
     });
     sample_parameter && direction && triangle && point_on && cylinder_point && placed
 }
