@@ -67,7 +67,6 @@ or_swap true false r = refl
 or_swap false b r = refl
 
 pub any_of_perm : {A : Type 0} (test : A → Bool) {xs ys : List A} → Permᴰ xs ys → any_of test xs ≡ any_of test ys
-unfolding any_of
 any_of_perm test Permᴰ.nil = refl
 any_of_perm test (Permᴰ.cons e d) = ap₂ ◌||◌ (ap test e) (any_of_perm test d)
 any_of_perm test (Permᴰ.swap {a = a} {b = b} {l = l} e₁ e₂) =

@@ -6,7 +6,9 @@ use Prim.Native.Nat.{ℕ, ◌<◌}
 use native.Mathlib.Omega.{arith}
 use lib.Dec.{eqb}
 use borrow.Author.Tests.{eq-eqb, eqb-true, ne_eqb}
-use Rattle.answers.specs.Outcome.{Check, check, first, Numbers, refused, settled}
+use Rattle.std.specs.Prelude.{Result, Ok, Err}
+use Rattle.answers.specs.Outcome.{Check, check, first, Numbers, refused, settled, settle, number_of, status_of, numbered}
+use Rattle.answers.specs.declared.refusal.Refusal.{Refusal}
 use Rattle.answers.proofs.FirstCheck.{first_here, first_later}
 
 pub settled_none : (refusal : ℕ) (numbers : Numbers) → refusal ≡ 0 → settled refusal numbers ≡ numbers
@@ -63,3 +65,39 @@ settled_later n b cs numbers e = ap (λ (r : ℕ). settled r numbers) (first_lat
 pub settled_empty : (numbers : Numbers) → settled (first []) numbers ≡ numbers
 unfolding first settled
 settled_empty numbers = refl
+
+-- ---- a result that is settled so
+
+module _ {A : Type 0} where
+  pub settle_ok : (n : ℕ) (x : A) → n ≡ 0 → settle n x ≡ Ok x
+  unfolding settle
+  settle_ok n x e = rw (eq-eqb n 0 e)
+
+  pub settle_err : (n : ℕ) (x : A) → (n ≡ 0 → ⊥) → settle n x ≡ Err n
+  unfolding settle
+  settle_err n x h = rw (ne_eqb n 0 h)
+
+  -- what is read in it
+  ok_of : (n : ℕ) (x y : A) → settle n x ≡ Ok y → (n ≡ 0) × (y ≡ x)
+  unfolding settle
+  ok_of n x y e = by (eqb n 0) refl e
+    where
+      by : (b : Bool) → eqb n 0 ≡ b → ◌≡◌ {A = Result A ℕ} (cond b (Ok x) (Err n)) (Ok y) → (n ≡ 0) × (y ≡ x)
+      by true k e = (eqb-true n 0 k, cc)
+      by false k e = let z : ◌≡◌ {A = ℕ} 0 1 = cc in absurd (omega arith)
+
+  err_of : (n m : ℕ) (x : A) → settle n x ≡ Err m → m ≡ n
+  unfolding settle
+  err_of n m x e = by (eqb n 0) e
+    where
+      by : (b : Bool) → ◌≡◌ {A = Result A ℕ} (cond b (Ok x) (Err n)) (Err m) → m ≡ n
+      by true e = let z : ◌≡◌ {A = ℕ} 0 1 = cc in absurd (omega arith)
+      by false e = cc
+
+  pub ok_told : {r : Result A Refusal} (n : ℕ) (x y : A) → numbered r ≡ settle n x → r ≡ Ok y → (n ≡ 0) × (y ≡ x)
+  unfolding numbered
+  ok_told n x y e k = ok_of n x y (sym e ∙ ap numbered k)
+
+  pub err_told : {r : Result A Refusal} (n : ℕ) (x : A) (refusal : Refusal) → numbered r ≡ settle n x → r ≡ Err refusal → number_of refusal ≡ n
+  unfolding numbered
+  err_told n x refusal e k = err_of n (number_of refusal) x (sym e ∙ ap numbered k)

@@ -2,31 +2,30 @@
 -- three coordinates, clearance and count, or a refusal number", and "With a refusal all other
 -- result numbers are 0". A call after the picker has its values first, and the rest is 0 (docs/DECISIONS.md); a yes is
 -- 1, a no 0.
--- Beside the numbers stands whether it is an answer: the numbers alone do not tell an answer of zeros from a refusal
--- with the number 0.
-use Rattle.std.specs.Prelude.{Bool, true, false, cond, Float}
+-- No refusal has the number 0, so the numbers tell an answer of zeros from a refusal (proofs/Papers.antt).
+use Rattle.std.specs.Prelude.{Bool, cond, Float, Result, Ok, Err}
 use Rattle.leaves.specs.Constants.{plus_zero, one}
-use Rattle.answers.specs.Outcome.{Numbers, refused}
-use Rattle.answers.specs.declared.outcomes.Answer.{Answer}
-use Rattle.answers.specs.declared.outcomes.Answer.TheVariants.{Point, Refused}
-use Rattle.answers.specs.declared.outcomes.ParameterAnswer.{ParameterAnswer}
-use Rattle.answers.specs.declared.outcomes.ParameterAnswer.TheVariants.{Parameter, Refused as NoParameter}
-use Rattle.answers.specs.declared.outcomes.DirectionAnswer.{DirectionAnswer}
-use Rattle.answers.specs.declared.outcomes.DirectionAnswer.TheVariants.{Direction, Refused as NoDirection}
-use Rattle.answers.specs.declared.outcomes.PositionAnswer.{PositionAnswer}
-use Rattle.answers.specs.declared.outcomes.PositionAnswer.TheVariants.{Position, Refused as NoPosition}
-use Rattle.answers.specs.declared.outcomes.MiddleAnswer.{MiddleAnswer}
-use Rattle.answers.specs.declared.outcomes.MiddleAnswer.TheVariants.{Middle, Refused as NoMiddle}
+use Rattle.space.specs.declared.vectors.Place.{Place}
+use Rattle.answers.specs.Outcome.{Numbers, refused, number_of}
+use Rattle.answers.specs.declared.refusal.Refusal.{Refusal}
+use Rattle.answers.specs.declared.outcomes.Values.{Values}
+use Rattle.answers.specs.declared.outcomes.Parameter.{Parameter}
+use Rattle.answers.specs.declared.outcomes.Direction.{Direction}
+use Rattle.answers.specs.declared.outcomes.Middle.{Middle}
+
+-- of an outcome, by the numbers of what is answered
+unfoldable pub paper_by : {A : Type 0} → (A → Numbers) → Result A Refusal → Numbers
+unfolding number_of
+paper_by numbers (Ok x) = numbers x
+paper_by numbers (Err r) = refused (number_of r)
 
 -- ---- chart and picks
 
-unfoldable pub paper : Answer → Numbers
-paper (Point x y z clearance count) = record { status = 0; x = x; y = y; z = z; clearance = clearance; count = count }
-paper (Refused n) = refused n
+abbrev pub values_numbers : Values → Numbers
+values_numbers v = record { status = 0; x = v.x; y = v.y; z = v.z; clearance = v.clearance; count = v.count }
 
-unfoldable pub is_point : Answer → Bool
-is_point (Point x y z clearance count) = true
-is_point (Refused n) = false
+abbrev pub paper : Result Values Refusal → Numbers
+paper answer = paper_by values_numbers answer
 
 -- ---- the calls after the picker
 
@@ -37,34 +36,26 @@ valued x y z = record { status = 0; x = x; y = y; z = z; clearance = plus_zero; 
 abbrev pub yes : Bool → Float
 yes b = cond b one plus_zero
 
-unfoldable pub parameter_paper : ParameterAnswer → Numbers
-parameter_paper (Parameter t) = valued t plus_zero plus_zero
-parameter_paper (NoParameter n) = refused n
+abbrev pub parameter_numbers : Parameter → Numbers
+parameter_numbers p = valued p.t plus_zero plus_zero
 
-unfoldable pub is_parameter : ParameterAnswer → Bool
-is_parameter (Parameter t) = true
-is_parameter (NoParameter n) = false
+abbrev pub parameter_paper : Result Parameter Refusal → Numbers
+parameter_paper answer = paper_by parameter_numbers answer
 
-unfoldable pub direction_paper : DirectionAnswer → Numbers
-direction_paper (Direction reverse keep) = valued (yes reverse) (yes keep) plus_zero
-direction_paper (NoDirection n) = refused n
+abbrev pub direction_numbers : Direction → Numbers
+direction_numbers d = valued (yes d.reverse) (yes d.keep) plus_zero
 
-unfoldable pub is_direction : DirectionAnswer → Bool
-is_direction (Direction reverse keep) = true
-is_direction (NoDirection n) = false
+abbrev pub direction_paper : Result Direction Refusal → Numbers
+direction_paper answer = paper_by direction_numbers answer
 
-unfoldable pub position_paper : PositionAnswer → Numbers
-position_paper (Position x y z) = valued x y z
-position_paper (NoPosition n) = refused n
+abbrev pub place_numbers : Place → Numbers
+place_numbers p = valued p.x p.y p.z
 
-unfoldable pub is_position : PositionAnswer → Bool
-is_position (Position x y z) = true
-is_position (NoPosition n) = false
+abbrev pub position_paper : Result Place Refusal → Numbers
+position_paper answer = paper_by place_numbers answer
 
-unfoldable pub middle_paper : MiddleAnswer → Numbers
-middle_paper (Middle angle height) = valued angle height plus_zero
-middle_paper (NoMiddle n) = refused n
+abbrev pub middle_numbers : Middle → Numbers
+middle_numbers m = valued m.angle m.height plus_zero
 
-unfoldable pub is_middle : MiddleAnswer → Bool
-is_middle (Middle angle height) = true
-is_middle (NoMiddle n) = false
+abbrev pub middle_paper : Result Middle Refusal → Numbers
+middle_paper answer = paper_by middle_numbers answer

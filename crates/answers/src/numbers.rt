@@ -7,32 +7,24 @@ ghost use Rattle.answers.specs.Limits.{beyond, missing};
 pub const ARGUMENT_LIMIT: f64 = 1048576.0;
 
 // Of magnitude above the limit, infinite, or a NaN.
+#[tactic(auto, unfolding(crate::specs::Limits::beyond))]
 pub fn is_beyond(limit: f64, x: f64) -> bool
     ensures { result ≡ beyond limit x }
 {
-    if -limit <= x { !(x <= limit) } else { true }
+    !(-limit <= x && x <= limit)
 }
 
 // Whether any number of a list is beyond the limit.
 pub fn any_number_beyond(limit: f64, list: &[f64]) -> bool
     ensures { result ≡ any_of (beyond limit) list.now }
 {
-    let mut k = 0;
-    while k < list.len() {
-        if is_beyond(limit, list[k]) {
-            return true;
-        }
-        k += 1;
-    }
-    false
+    list.iter().any(|x| is_beyond(limit, *x))
 }
 
 // Whether the list is not `count` numbers, none of them beyond the limit.
+#[tactic(auto, unfolding(crate::specs::Limits::missing))]
 pub fn is_missing(count: usize, limit: f64, list: &[f64]) -> bool
     ensures { result ≡ missing count limit list.now }
 {
-    if list.len() != count {
-        return true;
-    }
-    any_number_beyond(limit, list)
+    list.len() != count || any_number_beyond(limit, list)
 }

@@ -16,7 +16,7 @@ ghost use Rattle.vertex_fallback.specs.Vertices.{point_on_of};
 ghost use Rattle.triangle.specs.Lists.{triangle_lists_of};
 ghost use Rattle.capi.specs.Convention.{seen, chart_seen, image_pick_returned, plane_pick_returned};
 
-use answers::{RESULT_LENGTH, of_direction, of_middle, of_parameter, of_position, put};
+use answers::{RESULT_LENGTH, put};
 
 // The chart call: the status returned, the five numbers in `list`, the moved points in `points`.
 #[unsafe(no_mangle)]
@@ -60,7 +60,7 @@ pub extern "C" fn facepoint_plane_pick(sheet: &[u8], list: &mut [f64]) -> u32
 pub extern "C" fn facepoint_sample_parameter(a: f64, b: f64, n: u32, list: &mut [f64]) -> u32
     ensures { returned result list.new ≡ returned_of (sample_parameter_of a b n) list.old }
 {
-    put(of_parameter(steps::sample_parameter(a, b, n)), list)
+    put(steps::sample_parameter(a, b, n), list)
 }
 
 // The direction test of twelve numbers, first image, last image, start, end: reverse, keep.
@@ -68,7 +68,7 @@ pub extern "C" fn facepoint_sample_parameter(a: f64, b: f64, n: u32, list: &mut 
 pub extern "C" fn facepoint_direction(points: &[f64], list: &mut [f64]) -> u32
     ensures { returned result list.new ≡ returned_of (direction_of points.now) list.old }
 {
-    put(of_direction(steps::edge_direction(points)), list)
+    put(steps::edge_direction(points), list)
 }
 
 // The triangle on a sphere, of three numbers and of nineteen a side: x, y, z.
@@ -83,7 +83,7 @@ pub extern "C" fn facepoint_spherical_triangle(
     ensures { returned result list.new ≡ returned_of (triangle_lists_of centre.now radius sense sides.now) list.old }
 {
     put(
-        of_position(triangle::spherical_triangle_of(centre, radius, sense, sides)),
+        triangle::spherical_triangle_of(centre, radius, sense, sides),
         list,
     )
 }
@@ -99,7 +99,7 @@ pub extern "C" fn facepoint_point_on(
     ensures { returned result list.new ≡ returned_of (point_on_of u_axis.now normal.now corners.now) list.old }
 {
     put(
-        of_position(vertex_fallback::point_on(u_axis, normal, corners)),
+        vertex_fallback::point_on(u_axis, normal, corners),
         list,
     )
 }
@@ -110,7 +110,7 @@ pub extern "C" fn facepoint_cylinder_point(heights: &[f64], angles: &[f64], list
     ensures { returned result list.new ≡ returned_of (cylinder_point_of heights.now angles.now) list.old }
 {
     put(
-        of_middle(round_fallback::cylinder_point(heights, angles)),
+        round_fallback::cylinder_point(heights, angles),
         list,
     )
 }
@@ -120,7 +120,7 @@ pub extern "C" fn facepoint_cylinder_point(heights: &[f64], angles: &[f64], list
 pub extern "C" fn facepoint_placed(transform: &[f64], point: &[f64], list: &mut [f64]) -> u32
     ensures { returned result list.new ≡ returned_of (placed_of transform.now point.now) list.old }
 {
-    put(of_position(steps::placed(transform, point)), list)
+    put(steps::placed(transform, point), list)
 }
 
 // The IEEE 754 square root: double facepoint_root(double).

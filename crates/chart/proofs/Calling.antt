@@ -9,14 +9,16 @@ use lib.Dec.{eqb}
 use lib.Ieee.{Float}
 use lib.ListN.{length, length-map}
 use borrow.Author.Tests.{ltb-false, lt-ltb, le-ltb, ne_eqb, eq-eqb}
-use Rattle.answers.specs.Answers.{paper, is_point}
+use Rattle.std.specs.Prelude.{Result, Ok, Err}
+use Rattle.answers.specs.Answers.{paper, values_numbers}
 use Rattle.answers.specs.Lists.{over}
-use Rattle.answers.specs.Outcome.{Check, check, first, settled}
-use Rattle.answers.specs.declared.outcomes.Answer.{Answer}
-use Rattle.answers.specs.declared.outcomes.Answer.TheVariants.{Refused}
+use Rattle.answers.specs.Outcome.{Check, check, first, settled, number_of}
+use Rattle.answers.specs.declared.outcomes.Values.{Values}
+use Rattle.answers.specs.declared.refusal.Refusal.{Refusal}
+use Rattle.answers.specs.declared.refusal.Refusal.TheVariants.{Room}
 use Rattle.answers.proofs.FirstCheck.{Numbered, none_fails, first_passed, first_refused, first_here, first_later, append_none}
 use Rattle.answers.proofs.Over.{over_room}
-use Rattle.answers.proofs.Papers.{paper_refused, refused_no_point}
+use Rattle.answers.proofs.Papers.{paper_ok, paper_err, not_zero}
 use Rattle.answers.proofs.Settled.{settled_none, settled_refused}
 use Rattle.sheet.specs.Checks.{layout_checks, content_checks}
 use Rattle.sheet.specs.Content.{Point, pairs, flat}
@@ -57,18 +59,16 @@ phase_of s phase e =
 -- ---- a call that a check refuses
 
 module _ (s : List ℕ) (phase : ℕ) (out : List Float) where
-  -- the answer is the call's, and it is one just where its status is 0
-  abbrev pub Called : Answer → List Float → Type 0
-  Called r after = (charted (paper r) after ≡ chart_of s phase out) × (is_point r ≡ eqb (paper r).status 0)
+  -- the answer is the call's
+  abbrev pub Called : Result Values Refusal → List Float → Type 0
+  Called r after = charted (paper r) after ≡ chart_of s phase out
 
-  refused_by : (n : ℕ) → first (chart_checks s phase (length out)) ≡ n → (n ≡ 0 → ⊥) → Called (Refused n) out
-  refused_by n e h =
-      let answer = answered (frame (sheet_of s) phase) phase (chosen (sheet_of s) phase) in (
-        ap₂ charted
-            (paper_refused n ∙ sym (chart_numbers s phase out ∙ ap (λ (r : ℕ). settled r answer) e ∙ settled_refused n answer h))
-            (sym (chart_points s phase out ∙ ap (λ (b : Bool). cond b (written_over s phase out (sheet_of s)) out) (ap (λ (r : ℕ). eqb r 0) e ∙ ne_eqb n 0 h))),
-        refused_no_point n h,
-      )
+  refused_by : (r : Refusal) → first (chart_checks s phase (length out)) ≡ number_of r → Called (Err r) out
+  refused_by r e =
+      let answer = answered (frame (sheet_of s) phase) phase (chosen (sheet_of s) phase) in
+      ap₂ charted
+      (paper_err values_numbers r ∙ sym (chart_numbers s phase out ∙ ap (λ (n : ℕ). settled n answer) e ∙ settled_refused (number_of r) answer (not_zero r)))
+      (sym (chart_points s phase out ∙ ap (λ (b : Bool). cond b (written_over s phase out (sheet_of s)) out) (ap (λ (n : ℕ). eqb n 0) e ∙ ne_eqb (number_of r) 0 (not_zero r))))
 
   -- the rows behind 8
   abbrev later : List Check
@@ -78,16 +78,16 @@ module _ (s : List ℕ) (phase : ℕ) (out : List Float) where
   unfolding chart_checks phase_checks
   checks_are = sym (append_assoc (layout_checks s ++ content_checks (sheet_of s)) (check 8 (phase_wrong (sheet_of s) phase) ∷ []) later)
 
-  pub call_unread : (n : ℕ) → n ≡ first (phase_checks s phase) → (n ≡ 0 → ⊥) → Called (Refused n) out
-  call_unread n e h = refused_by n (ap first checks_are ∙ first_refused (phase_checks s phase) later (λ z. h (e ∙ z)) ∙ sym e) h
+  pub call_unread : (r : Refusal) → number_of r ≡ first (phase_checks s phase) → Called (Err r) out
+  call_unread r e = refused_by r (ap first checks_are ∙ first_refused (phase_checks s phase) later (λ z. not_zero r (e ∙ z)) ∙ sym e)
 
   module _ (passes : first (phase_checks s phase) ≡ 0) where
     past_phase : first (chart_checks s phase (length out)) ≡ first later
     past_phase = ap first checks_are ∙ first_passed (phase_checks s phase) later (phase_numbered s phase) passes
 
-    pub call_no_room : length out < 2 * point_count (sheet_of s) → Called (Refused 9) out
-    unfolding room_wrong
-    call_no_room h = refused_by 9 (past_phase ∙ first_here (check 9 (room_wrong (sheet_of s) (length out))) (frame_checks (sheet_of s) phase) (lt-ltb _ _ h)) (λ z. omega (arith, z))
+    pub call_no_room : length out < 2 * point_count (sheet_of s) → Called (Err Room) out
+    unfolding room_wrong number_of
+    call_no_room h = refused_by Room (past_phase ∙ first_here (check 9 (room_wrong (sheet_of s) (length out))) (frame_checks (sheet_of s) phase) (lt-ltb _ _ h))
 
     pub call_passes : 2 * point_count (sheet_of s) ≤ length out → Passed s phase out
     unfolding room_wrong
@@ -105,8 +105,8 @@ module _ {s : List ℕ} {phase : ℕ} {out : List Float} (p : Passed s phase out
   left : first (chart_checks s phase (length out)) ≡ first (frame_checks (sheet_of s) phase)
   left = past_phase s phase out p.passes ∙ first_later (check 9 (room_wrong (sheet_of s) (length out))) (frame_checks (sheet_of s) phase) p.room_right
 
-  pub call_refused : (n : ℕ) → n ≡ first (frame_checks (sheet_of s) phase) → (n ≡ 0 → ⊥) → Called s phase out (Refused n) out
-  call_refused n e h = refused_by s phase out n (left ∙ sym e) h
+  pub call_refused : (r : Refusal) → number_of r ≡ first (frame_checks (sheet_of s) phase) → Called s phase out (Err r) out
+  call_refused r e = refused_by s phase out r (left ∙ sym e)
 
   module _ (passes : first (frame_checks (sheet_of s) phase) ≡ 0) where
     none : first (chart_checks s phase (length out)) ≡ 0
@@ -122,9 +122,9 @@ module _ {s : List ℕ} {phase : ℕ} {out : List Float} (p : Passed s phase out
         let long : length w ≡ 2 * point_count (sheet_of s) = length_flat (map (written_point phase) (flatten rings)) ∙ ap (λ (n : ℕ). 2 * n) (length-map (flatten rings) (written_point phase)) ∙ sym (length_flat (flatten rings)) ∙ ap (λ (rs : List (List Point)). length (flat (flatten rs))) (sheet_moved s phase) ∙ numbers_count s phase in
         ap (λ (ys : List Float). over ys out) points ∙ over_room w out (omega (arith, long, ltb-false (length out) (2 * point_count (sheet_of s)) p.room_right))
 
-    pub call_answered : {xs after : List Float} (r : Answer) {f : Frame} {c : Candidate} → xs ≡ flat (flatten (moved_rings (sheet_of s) phase)) → after ≡ over (flat (map (written_point phase) (pairs xs))) out
-        → f ≡ frame (sheet_of s) phase → c ≡ chosen (sheet_of s) phase → paper r ≡ answered f phase c → charted (paper r) after ≡ chart_of s phase out
-    call_answered r x a e d q =
+    pub call_answered : {xs after : List Float} (v : Values) {f : Frame} {c : Candidate} → xs ≡ flat (flatten (moved_rings (sheet_of s) phase)) → after ≡ over (flat (map (written_point phase) (pairs xs))) out
+        → f ≡ frame (sheet_of s) phase → c ≡ chosen (sheet_of s) phase → values_numbers v ≡ answered f phase c → Called s phase out (Ok v) after
+    call_answered v x a e d q =
         ap₂ charted
-        (q ∙ ap₂ (λ (f : Frame) (c : Candidate). answered f phase c) e d ∙ sym (chart_numbers s phase out ∙ settled_none (first (chart_checks s phase (length out))) (answered (frame (sheet_of s) phase) phase (chosen (sheet_of s) phase)) none))
+        (paper_ok values_numbers v ∙ q ∙ ap₂ (λ (f : Frame) (c : Candidate). answered f phase c) e d ∙ sym (chart_numbers s phase out ∙ settled_none (first (chart_checks s phase (length out))) (answered (frame (sheet_of s) phase) phase (chosen (sheet_of s) phase)) none))
         (a ∙ written_is x ∙ sym (chart_points s phase out ∙ ap (λ (b : Bool). cond b (written_over s phase out (sheet_of s)) out) (eq-eqb _ 0 none)))

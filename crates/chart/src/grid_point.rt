@@ -1,38 +1,36 @@
 // Checks 11 to 14 and rules 1 to 9: the grid point of a sheet, for the chart and the picks.
 ghost use Rattle.std.specs.Prelude.{◌≡◌, length};
+ghost use Rattle.answers.specs.Outcome.{numbered};
 ghost use Rattle.sheet.specs.Layout.{sheet_of};
 ghost use Rattle.frame.specs.Seam.{fitting, laid_points, laid_ends};
 ghost use Rattle.chart.specs.Chart.{answered};
 ghost use Rattle.chart.specs.Found.{found_of};
 
 use crate::choice::chosen;
-use frame::{Frame, Framed};
+use answers::Refusal;
+use frame::Frame;
 use leaves::constants::CLEARANCE_LIMIT;
 use search::Candidate;
 
-// The frame of a sheet and its chosen grid point, or the number of the check that refuses it.
+// The frame of a sheet and its chosen grid point.
 #[derive(Clone, Copy)]
-pub enum Found {
-    Chosen(Frame, Candidate),
-    Refused(u32),
+pub struct Found {
+    pub frame: Frame,
+    pub best: Candidate,
 }
 
 // The chosen grid point of a sheet, with the sheet's frame, or the first of 11 to 14 that fails. The moved
 // points and where the rings end go into the lists, as `frame::lay_out` lays them: lists of another size than
 // the sheet's are refused with 9, and stay as they are.
-pub fn find(s: &[u8], phase: u32, points: &mut [f64], ends: &mut [usize]) -> Found
-    ensures { (result ≡ found_of (fitting (sheet_of s.now) (length points.old) (length ends.old)) (sheet_of s.now) phase) × (points.new ≡ laid_points (fitting (sheet_of s.now) (length points.old) (length ends.old)) (sheet_of s.now) phase points.old) × (ends.new ≡ laid_ends (fitting (sheet_of s.now) (length points.old) (length ends.old)) (sheet_of s.now) phase ends.old) }
+pub fn find(s: &[u8], phase: u32, points: &mut [f64], ends: &mut [usize]) -> Result<Found, Refusal>
+    ensures { (numbered result ≡ found_of (fitting (sheet_of s.now) (length points.old) (length ends.old)) (sheet_of s.now) phase) × (points.new ≡ laid_points (fitting (sheet_of s.now) (length points.old) (length ends.old)) (sheet_of s.now) phase points.old) × (ends.new ≡ laid_ends (fitting (sheet_of s.now) (length points.old) (length ends.old)) (sheet_of s.now) phase ends.old) }
 {
-    match frame::lay_out(s, phase, points, ends) {
-        Framed::Refused(number) => Found::Refused(number),
-        Framed::Ready(f) => {
-            let best = chosen(f, sheet::byte_at(s, 6), points, ends);
-            if CLEARANCE_LIMIT < best.clearance {
-                Found::Chosen(f, best)
-            } else {
-                Found::Refused(14)
-            }
-        }
+    let frame = frame::lay_out(s, phase, points, ends)?;
+    let best = chosen(frame, sheet::byte_at(s, 6), points, ends);
+    if CLEARANCE_LIMIT < best.clearance {
+        Ok(Found { frame, best })
+    } else {
+        Err(Refusal::NoneClear)
     }
 }
 

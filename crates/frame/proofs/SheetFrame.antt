@@ -5,7 +5,6 @@ use mathlib.Core.Path.{◌≡◌, refl, sym, ap, ap₂, ◌∙◌}
 use Prim.Native.Nat.{ℕ, ◌*◌, ◌≤◌}
 use native.Mathlib.Omega.{arith}
 use lib.ListN.{length, drop}
-use Rattle.answers.specs.Lists.{any_of}
 use Rattle.answers.specs.Outcome.{first}
 use Rattle.sheet.specs.Checks.{layout_checks, content_checks}
 use Rattle.sheet.specs.Content.{Point, Coedge, ring_points, flat}
@@ -36,7 +35,7 @@ sheet_moved s phase = blocks_moved (kind s) phase (cut (ring_count s) (drop (hea
 -- every coedge has seventeen points, so which points are their coedge's first is told by counting
 rings_open : (f : Frame) (kind phase : ℕ) (bs : List (List ℕ))
     → any_open f opens (λ (r : List Coedge). moved_ring kind phase (ring_points r)) (map ring bs) ≡ open_every f (map (moved_block kind phase) bs)
-unfolding any_of any_open moved_block
+unfolding any_open moved_block
 rings_open f kind phase [] = refl
 rings_open f kind phase (b ∷ bs) =
     let ps = moved_ring kind phase (ring_points (ring b)) in

@@ -15,7 +15,7 @@ use Rattle.points.specs.Bounds.{least, greatest, axis_of, goes_around}
 use Rattle.frame.specs.declared.framing.Frame.{Frame}
 
 unfoldable pub band_of : ℕ → List (List Point) → Bool
-unfolding any_of goes_around
+unfolding goes_around
 band_of kind rings = eqb kind 4 && any_of goes_around rings
 
 unfoldable pub periodic_of : ℕ → Bool → Bool

@@ -2,17 +2,15 @@
 -- that the caller lends, with the frame, or the first of 11 to 13 that fails.
 -- Each call puts its own 9 or 10 between the two. Both have a value for every list of bytes, and lists of another size
 -- than the sheet's are refused with 9.
-use Rattle.std.specs.Prelude.{Bool, not, cond, ◌&&◌, ℕ, ◌*◌, eqb, leb, Float, length}
+use Rattle.std.specs.Prelude.{Bool, not, cond, ◌&&◌, ℕ, ◌*◌, eqb, leb, Float, length, Result}
 use mathlib.Core.List.{List, [], ◌∷◌, ◌++◌, flatten}
-use Rattle.answers.specs.Outcome.{Check, check, first}
+use Rattle.answers.specs.Outcome.{Check, check, first, settle}
 use Rattle.sheet.specs.Checks.{layout_checks, content_checks}
 use Rattle.sheet.specs.Content.{Sheet, flat}
 use Rattle.sheet.specs.Layout.{sheet_of}
 use Rattle.frame.specs.Framing.{moved_rings, frame, point_count, phase_wrong, join_checks}
 use Rattle.frame.specs.Parts.{ends_from}
 use Rattle.frame.specs.declared.framing.Frame.{Frame}
-use Rattle.frame.specs.declared.seam.Framed.{Framed}
-use Rattle.frame.specs.declared.seam.Framed.TheVariants.{Ready, Refused}
 
 -- ---- 1 to 8
 
@@ -48,9 +46,6 @@ unfolding join_checks
 seam_checks fits s phase = check 9 (not fits) ∷ join_checks s phase
 
 -- the frame where no check fails, else the first that does
-unfoldable pub ready : ℕ → Frame → Framed
-ready refusal f = cond (eqb refusal 0) (Ready f) (Refused refusal)
-
-unfoldable pub framed_of : Bool → Sheet → ℕ → Framed
-unfolding ready first seam_checks frame
-framed_of fits s phase = ready (first (seam_checks fits s phase)) (frame s phase)
+unfoldable pub framed_of : Bool → Sheet → ℕ → Result Frame ℕ
+unfolding settle first seam_checks frame
+framed_of fits s phase = settle (first (seam_checks fits s phase)) (frame s phase)

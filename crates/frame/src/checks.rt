@@ -1,9 +1,11 @@
 // Checks 1 to 8, and how many numbers the points are.
 ghost use Rattle.std.specs.Prelude.{◌≡◌, ◌*◌};
-ghost use Rattle.answers.specs.Outcome.{first};
+ghost use Rattle.answers.specs.Outcome.{first, status_of};
 ghost use Rattle.sheet.specs.Layout.{sheet_of};
 ghost use Rattle.frame.specs.Framing.{phase_wrong, point_count};
 ghost use Rattle.frame.specs.Seam.{phase_checks};
+
+use answers::Refusal;
 
 // 8: a phase that is neither 0 nor 1, or 1 off a torus.
 fn phase_wrong(s: &[u8], phase: u32) -> bool
@@ -18,15 +20,15 @@ fn phase_wrong(s: &[u8], phase: u32) -> bool
     }
 }
 
-// The number of the first check of 1 to 8 that fails, 0 where none does.
-pub fn refusal(s: &[u8], phase: u32) -> u32
-    ensures { result ≡ first (phase_checks s.now phase) }
+// The first check of 1 to 8 that fails.
+pub fn check(s: &[u8], phase: u32) -> Result<(), Refusal>
+    ensures { status_of result ≡ first (phase_checks s.now phase) }
 {
-    let number = sheet::refusal(s);
-    if number != 0 {
-        return number;
+    sheet::check(s)?;
+    if phase_wrong(s, phase) {
+        return Err(Refusal::Phase);
     }
-    if phase_wrong(s, phase) { 8 } else { 0 }
+    Ok(())
 }
 
 // How many f64 the points of all rings are.

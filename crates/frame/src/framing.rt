@@ -5,10 +5,11 @@ ghost use Rattle.answers.specs.Lists.{any_of};
 ghost use Rattle.points.specs.Bounds.{goes_around};
 ghost use Rattle.frame.specs.Frame.{band_of, periodic_of, capped as capped_at, framed, band_wide, narrow as narrow_in};
 ghost use Rattle.frame.specs.Parts.{rings_from, Ascends};
-ghost use Rattle.answers.specs.Outcome.{first};
+ghost use Rattle.answers.specs.Outcome.{first, status_of};
 ghost use Rattle.frame.specs.Framing.{join_rows};
 ghost use Rattle.frame.specs.Stages.{open_every};
 
+use answers::Refusal;
 use leaves::constants::{PI, SCALE_LIMIT, TAU};
 
 // What rules 4 to 9 ask of a sheet beside its points: the box's least u and v, the scales, P, and
@@ -153,20 +154,19 @@ fn joins_open(frame: Frame, points: &[f64], ends: &[usize]) -> bool
     false
 }
 
-// Checks 11 to 13 in a frame: the number of the first that fails, 0 where none does.
-pub(crate) fn joins_refusal(frame: Frame, points: &[f64], ends: &[usize]) -> u32
+// Checks 11 to 13 in a frame: the first that fails.
+pub(crate) fn check_joins(frame: Frame, points: &[f64], ends: &[usize]) -> Result<(), Refusal>
     requires { Ascends 0 ends.now (length points.now) }
-    ensures { result ≡ first (join_rows frame (open_every frame (rings_from 0 ends.now points.now))) }
+    ensures { status_of result ≡ first (join_rows frame (open_every frame (rings_from 0 ends.now points.now))) }
 {
     if band_wide(frame) {
-        return 11;
+        return Err(Refusal::WideBand);
     }
     if narrow(frame) {
-        return 12;
+        return Err(Refusal::Narrow);
     }
     if joins_open(frame, points, ends) {
-        13
-    } else {
-        0
+        return Err(Refusal::OpenJoin);
     }
+    Ok(())
 }

@@ -1,5 +1,5 @@
 // Rule 3 and the joins: the box of all rings, band and periodic, scales, and the checks 8 and 11 to 13. Chart
-// and picks begin at the two functions `refusal` and `lay_out`, with their own 9 or 10 between them.
+// and picks begin at the two functions `check` and `lay_out`, with their own 9 or 10 between them.
 #![tactic(auto)]
 
 mod checks;
@@ -7,6 +7,6 @@ mod framing;
 mod prepare;
 mod seam;
 
-pub use checks::{point_numbers, refusal};
+pub use checks::{check, point_numbers};
 pub use framing::Frame;
-pub use seam::{Framed, lay_out};
+pub use seam::lay_out;

@@ -8,7 +8,6 @@ ghost use Rattle.physical.specs.Stages.{Far, any_near};
 
 use crate::deviation::least_clearance;
 use crate::near_segments::{any_near, far_key, is_passable};
-use crate::parts::held;
 use space::Place;
 
 // Whether the distance from p to one of the segments of all rings' images is not above the limit. Images past
@@ -17,21 +16,14 @@ fn any_ring_near(s: &[u8], limit: f64, far: f64, p: Place, images: &[f64]) -> bo
     requires { Far limit far }
     ensures { result ≡ foldl (any_near limit p) false (ring_images (sheet_of s.now).rings images.now) }
 {
-    let size = images.len();
-    let mut at = sheet::head_size(sheet::byte_at(s, 5));
-    let count = sheet::byte_at(s, 7);
-    let mut from = 0usize;
-    let mut k: u8 = 0;
-    while k < count {
-        let to = from + 3 * (sheet::COEDGE_POINTS * (sheet::byte_at(s, at) as usize));
-        let low = held(from, size);
-        let high = held(to, size);
-        if any_near(limit, far, p, &images[low..high]) {
+    let mut rest = images;
+    for block in sheet::ring_blocks(s) {
+        let count = 3 * sheet::COEDGE_POINTS * sheet::byte_at(block, 0) as usize;
+        let (ring, behind) = rest.split_at(count.min(rest.len()));
+        if any_near(limit, far, p, ring) {
             return true;
         }
-        from = to;
-        at += sheet::block_size(s, at);
-        k += 1;
+        rest = behind;
     }
     false
 }

@@ -7,22 +7,24 @@ use lib.Dec.{eqb}
 use lib.Ieee.{Float}
 use borrow.Author.Tests.{eq-eqb, eqb-true, ne_eqb, not-false}
 use Rattle.space.specs.declared.vectors.Place.{Place}
-use Rattle.answers.specs.Outcome.{Check, check, first, Numbers, refused, settled}
+use Rattle.std.specs.Prelude.{Result, Ok, Err}
+use Rattle.answers.specs.Outcome.{Check, check, first, Numbers, refused, settled, number_of}
 use Rattle.answers.specs.Limits.{beyond}
 use Rattle.sheet.specs.Checks.{layout_checks, content_checks}
 use Rattle.answers.specs.Lists.{any_of}
 use Rattle.sheet.proofs.Checked.{sheet_numbered}
 use Rattle.answers.proofs.AnyOf.{neither}
-use Rattle.answers.specs.declared.outcomes.Answer.{Answer}
-use Rattle.answers.specs.declared.outcomes.Answer.TheVariants.{Point as Answered, Refused}
+use Rattle.answers.specs.declared.outcomes.Values.{Values}
+use Rattle.answers.specs.declared.refusal.Refusal.{Refusal}
+use Rattle.answers.specs.declared.refusal.Refusal.TheVariants.{Phase, Images, TooClose}
 use Rattle.search.specs.declared.candidate.Candidate.{Candidate}
 use Rattle.answers.proofs.Settled.{settled_refused, settled_last}
 use lib.ListN.{length, drop}
 use mathlib.Core.List.{List, [], ◌∷◌, ◌++◌, append_assoc}
 use Prim.Native.Nat.{ℕ, ◌+◌, ◌-◌, ◌*◌}
-use Rattle.answers.specs.Answers.{paper, is_point}
+use Rattle.answers.specs.Answers.{paper, values_numbers}
 use Rattle.answers.proofs.FirstCheck.{first_here, first_none, first_passed, first_refused}
-use Rattle.answers.proofs.Papers.{paper_point, paper_refused, point_answers, refused_no_point}
+use Rattle.answers.proofs.Papers.{paper_ok, paper_err, not_zero}
 use Rattle.sheet.specs.Content.{Point, point}
 use Rattle.sheet.specs.Layout.{kind, numbers, sheet_of}
 use Rattle.sheet.proofs.Planes.{sheet_kind, sheet_plane}
@@ -45,18 +47,18 @@ use Rattle.space.specs.Places.{place_at}
 
 -- ---- 15, and the answer
 
--- the answer has these numbers, and is one just where its status is 0
-abbrev pub Picked : Answer → Numbers → Type 0
-Picked r n = (paper r ≡ n) × (is_point r ≡ eqb (paper r).status 0)
+-- the answer has these numbers
+abbrev pub Picked : Result Values Refusal → Numbers → Type 0
+Picked r n = paper r ≡ n
 
 module _ (close : Bool) (p : Place) (c : Candidate) where
-  pub closing_near : close ≡ true → Picked (Refused 15) (closing close p c)
-  unfolding closing
-  closing_near e = (paper_refused 15 ∙ ap (λ (b : Bool). cond b (refused 15) (answered_at p c)) (sym e), refused_no_point 15 (λ z. omega (arith, z)))
+  pub closing_near : close ≡ true → Picked (Err TooClose) (closing close p c)
+  unfolding closing number_of
+  closing_near e = paper_err values_numbers TooClose ∙ ap (λ (b : Bool). cond b (refused 15) (answered_at p c)) (sym e)
 
-  pub closing_clear : close ≡ false → Picked (Answered p.x p.y p.z c.clearance c.count) (closing close p c)
+  pub closing_clear : close ≡ false → Picked (Ok (record { x = p.x; y = p.y; z = p.z; clearance = c.clearance; count = c.count })) (closing close p c)
   unfolding closing answered_at
-  closing_clear e = (paper_point p.x p.y p.z c.clearance c.count ∙ ap (λ (b : Bool). cond b (refused 15) (answered_at p c)) (sym e), point_answers p.x p.y p.z c.clearance c.count)
+  closing_clear e = paper_ok values_numbers _ ∙ ap (λ (b : Bool). cond b (refused 15) (answered_at p c)) (sym e)
 
 -- ---- the table of a pick with rows of its own between 7 and 11, and its answer
 
@@ -75,27 +77,27 @@ module _ (s : List ℕ) (own : List Check) (phase : ℕ) (p : Place) (close : Bo
       append_assoc rows (own ++ frame_checks (sheet_of s) phase) (check 15 close ∷ []) ∙ ap (λ (cs : List Check). rows ++ cs) (append_assoc own (frame_checks (sheet_of s) phase) (check 15 close ∷ []))
 
   -- the first check that fails is the answer
-  refused_by : (n : ℕ) → first (pick_checks s own phase close) ≡ n → (n ≡ 0 → ⊥) → Picked (Refused n) (pick_of s own phase p close)
+  refused_by : (r : Refusal) → first (pick_checks s own phase close) ≡ number_of r → Picked (Err r) (pick_of s own phase p close)
   unfolding pick_of
-  refused_by n e h = (paper_refused n ∙ sym (ap (λ (m : ℕ). settled m answer) e ∙ settled_refused n answer h), refused_no_point n h)
+  refused_by r e = paper_err values_numbers r ∙ sym (ap (λ (m : ℕ). settled m answer) e ∙ settled_refused (number_of r) answer (not_zero r))
 
-  pick_unread : (n : ℕ) → n ≡ first (layout_checks s ++ content_checks (sheet_of s)) → (n ≡ 0 → ⊥) → Picked (Refused n) (pick_of s own phase p close)
-  pick_unread n e h = refused_by n (ap first checks_are ∙ first_refused (layout_checks s ++ content_checks (sheet_of s)) (own ++ last) (λ z. h (e ∙ z)) ∙ sym e) h
+  pick_unread : (r : Refusal) → number_of r ≡ first (layout_checks s ++ content_checks (sheet_of s)) → Picked (Err r) (pick_of s own phase p close)
+  pick_unread r e = refused_by r (ap first checks_are ∙ first_refused (layout_checks s ++ content_checks (sheet_of s)) (own ++ last) (λ z. not_zero r (e ∙ z)) ∙ sym e)
 
   module _ (reads : first (layout_checks s ++ content_checks (sheet_of s)) ≡ 0) where
     past_reading : first (pick_checks s own phase close) ≡ first (own ++ last)
     past_reading = ap first checks_are ∙ first_passed (layout_checks s ++ content_checks (sheet_of s)) (own ++ last) (sheet_numbered s) reads
 
-    pick_wrong : (n : ℕ) → first own ≡ n → (n ≡ 0 → ⊥) → Picked (Refused n) (pick_of s own phase p close)
-    pick_wrong n e h = refused_by n (past_reading ∙ first_refused own last (λ z. h (sym e ∙ z)) ∙ e) h
+    pick_wrong : (r : Refusal) → first own ≡ number_of r → Picked (Err r) (pick_of s own phase p close)
+    pick_wrong r e = refused_by r (past_reading ∙ first_refused own last (λ z. not_zero r (sym e ∙ z)) ∙ e)
 
     module _ (o : Own own) (passes : first own ≡ 0) where
       past_own : first (pick_checks s own phase close) ≡ first last
       past_own = past_reading ∙ first_passed own last o.numbered passes
 
-      pick_uncharted : (n : ℕ) → n ≡ first (frame_checks (sheet_of s) phase) → (n ≡ 0 → ⊥) → Picked (Refused n) (pick_of s own phase p close)
+      pick_uncharted : (r : Refusal) → number_of r ≡ first (frame_checks (sheet_of s) phase) → Picked (Err r) (pick_of s own phase p close)
       unfolding last
-      pick_uncharted n e h = refused_by n (past_own ∙ first_refused (frame_checks (sheet_of s) phase) (check 15 close ∷ []) (λ z. h (e ∙ z)) ∙ sym e) h
+      pick_uncharted r e = refused_by r (past_own ∙ first_refused (frame_checks (sheet_of s) phase) (check 15 close ∷ []) (λ z. not_zero r (e ∙ z)) ∙ sym e)
 
       pick_closed : first (frame_checks (sheet_of s) phase) ≡ 0 → closing close p (chosen (sheet_of s) phase) ≡ pick_of s own phase p close
       unfolding last pick_of closing
@@ -116,17 +118,18 @@ module _ (s : List ℕ) (phase : ℕ) (images : List Float) where
       ∙ sym (append_assoc (layout_checks s ++ content_checks (sheet_of s)) (check 8 (phase_wrong (sheet_of s) phase) ∷ []) behind)
       ∙ ap (λ (cs : List Check). cs ++ behind) (sym (phase_rows s phase))
 
-  image_by : (n : ℕ) → first (image_checks s phase images) ≡ n → (n ≡ 0 → ⊥) → Picked (Refused n) (image_pick_of s phase images)
-  image_by n e h =
-      let r = refused_by s (image_rows (sheet_of s) phase images) phase (last_image (sheet_of s) images) (image_close (sheet_of s) images) n (sym (ap first (image_checks_are s phase images)) ∙ e) h in
-      (r.0 ∙ sym (image_is s phase images), r.1)
+  image_by : (r : Refusal) → first (image_checks s phase images) ≡ number_of r → Picked (Err r) (image_pick_of s phase images)
+  image_by r e =
+      refused_by s (image_rows (sheet_of s) phase images) phase (last_image (sheet_of s) images) (image_close (sheet_of s) images) r (sym (ap first (image_checks_are s phase images)) ∙ e)
+      ∙ sym (image_is s phase images)
 
-  pub image_unread : (n : ℕ) → n ≡ first (phase_checks s phase) → (n ≡ 0 → ⊥) → Picked (Refused n) (image_pick_of s phase images)
-  image_unread n e h = image_by n (ap first image_rows_lem ∙ first_refused (phase_checks s phase) behind (λ z. h (e ∙ z)) ∙ sym e) h
+  pub image_unread : (r : Refusal) → number_of r ≡ first (phase_checks s phase) → Picked (Err r) (image_pick_of s phase images)
+  image_unread r e = image_by r (ap first image_rows_lem ∙ first_refused (phase_checks s phase) behind (λ z. not_zero r (e ∙ z)) ∙ sym e)
 
-  pub image_wrong : first (phase_checks s phase) ≡ 0 → images_wrong (sheet_of s) images ≡ true → Picked (Refused 10) (image_pick_of s phase images)
+  pub image_wrong : first (phase_checks s phase) ≡ 0 → images_wrong (sheet_of s) images ≡ true → Picked (Err Images) (image_pick_of s phase images)
+  unfolding number_of
   image_wrong passes e =
-      image_by 10 (ap first image_rows_lem ∙ first_passed (phase_checks s phase) behind (phase_numbered s phase) passes ∙ first_here (check 10 (images_wrong (sheet_of s) images)) _ e) (λ z. omega (arith, z))
+      image_by Images (ap first image_rows_lem ∙ first_passed (phase_checks s phase) behind (phase_numbered s phase) passes ∙ first_here (check 10 (images_wrong (sheet_of s) images)) _ e)
 
 module _ {s : List ℕ} {phase : ℕ} {images : List Float} (i : ImagePassed s phase images) where
   pub image_reads : first (layout_checks s ++ content_checks (sheet_of s)) ≡ 0
@@ -148,22 +151,20 @@ module _ {s : List ℕ} {phase : ℕ} {images : List Float} (i : ImagePassed s p
       ap (place_at images) e
 
   -- what was refused on the way to the grid point
-  pub image_refused : (n : ℕ) → n ≡ first (frame_checks (sheet_of s) phase) → (n ≡ 0 → ⊥) → Picked (Refused n) (image_pick_of s phase images)
-  image_refused n e h =
-      let r = pick_uncharted s (image_rows (sheet_of s) phase images) phase (last_image (sheet_of s) images) (image_close (sheet_of s) images) image_reads (image_own s phase images) rows_pass n e h in
-      (r.0 ∙ sym (image_is s phase images), r.1)
+  pub image_refused : (r : Refusal) → number_of r ≡ first (frame_checks (sheet_of s) phase) → Picked (Err r) (image_pick_of s phase images)
+  image_refused r e =
+      pick_uncharted s (image_rows (sheet_of s) phase images) phase (last_image (sheet_of s) images) (image_close (sheet_of s) images) image_reads (image_own s phase images) rows_pass r e
+      ∙ sym (image_is s phase images)
 
-  pub image_answered : {close : Bool} {p : Place} {c : Candidate} (r : Answer) → first (frame_checks (sheet_of s) phase) ≡ 0 → p ≡ place_at images (length images - 3) → close ≡ too_close (sheet_of s) p (ring_images (sheet_of s).rings images)
+  pub image_answered : {close : Bool} {p : Place} {c : Candidate} (r : Result Values Refusal) → first (frame_checks (sheet_of s) phase) ≡ 0 → p ≡ place_at images (length images - 3) → close ≡ too_close (sheet_of s) p (ring_images (sheet_of s).rings images)
       → c ≡ chosen (sheet_of s) phase → Picked r (closing close p c) → Picked r (image_pick_of s phase images)
   unfolding image_close
   image_answered r passes e k d q =
-      let at = e ∙ last_image_lem in (
-        q.0
-            ∙ (λ j. closing ((k ∙ ap (λ (x : Place). too_close (sheet_of s) x (ring_images (sheet_of s).rings images)) at) j) (at j) (d j))
-            ∙ pick_closed s (image_rows (sheet_of s) phase images) phase (last_image (sheet_of s) images) (image_close (sheet_of s) images) image_reads (image_own s phase images) rows_pass passes
-            ∙ sym (image_is s phase images),
-        q.1,
-      )
+      let at = e ∙ last_image_lem in
+      q
+      ∙ (λ j. closing ((k ∙ ap (λ (x : Place). too_close (sheet_of s) x (ring_images (sheet_of s).rings images)) at) j) (at j) (d j))
+      ∙ pick_closed s (image_rows (sheet_of s) phase images) phase (last_image (sheet_of s) images) (image_close (sheet_of s) images) image_reads (image_own s phase images) rows_pass passes
+      ∙ sym (image_is s phase images)
 
 -- ---- plane pick
 
@@ -174,19 +175,20 @@ module _ (s : List ℕ) where
   abbrev near_chosen : Bool
   near_chosen = close_at (sheet_of s) (chosen (sheet_of s) 0)
 
-  picked_on : (r : Answer) → Picked r (pick_of s (plane_rows (sheet_of s)) 0 at_chosen near_chosen) → Picked r (plane_pick_of s)
-  picked_on r q = (q.0 ∙ sym (plane_is s), q.1)
+  picked_on : (r : Result Values Refusal) → Picked r (pick_of s (plane_rows (sheet_of s)) 0 at_chosen near_chosen) → Picked r (plane_pick_of s)
+  picked_on r q = q ∙ sym (plane_is s)
 
-  pub plane_unread : (n : ℕ) → n ≡ first (layout_checks s ++ content_checks (sheet_of s)) → (n ≡ 0 → ⊥) → Picked (Refused n) (plane_pick_of s)
-  plane_unread n e h = picked_on (Refused n) (pick_unread s (plane_rows (sheet_of s)) 0 at_chosen near_chosen n e h)
+  pub plane_unread : (r : Refusal) → number_of r ≡ first (layout_checks s ++ content_checks (sheet_of s)) → Picked (Err r) (plane_pick_of s)
+  plane_unread r e = picked_on (Err r) (pick_unread s (plane_rows (sheet_of s)) 0 at_chosen near_chosen r e)
 
   no_plane_lem : (b : Bool) → eqb (kind s) 0 ≡ b → no_plane (sheet_of s) ≡ not b
   unfolding no_plane
   no_plane_lem b e = ap not (ap (λ (k : ℕ). eqb k 0) (sheet_kind s) ∙ e)
 
   module _ (reads : first (layout_checks s ++ content_checks (sheet_of s)) ≡ 0) where
-    pub plane_wrong_kind : (kind s ≡ 0 → ⊥) → Picked (Refused 8) (plane_pick_of s)
-    plane_wrong_kind h = picked_on (Refused 8) (pick_wrong s (plane_rows (sheet_of s)) 0 at_chosen near_chosen reads 8 (first_here (check 8 (no_plane (sheet_of s))) [] (no_plane_lem false (ne_eqb (kind s) 0 h))) (λ z. omega (arith, z)))
+    pub plane_wrong_kind : (kind s ≡ 0 → ⊥) → Picked (Err Phase) (plane_pick_of s)
+    unfolding number_of
+    plane_wrong_kind h = picked_on (Err Phase) (pick_wrong s (plane_rows (sheet_of s)) 0 at_chosen near_chosen reads Phase (first_here (check 8 (no_plane (sheet_of s))) [] (no_plane_lem false (ne_eqb (kind s) 0 h))))
 
     pub planar : kind s ≡ 0 → PlanePassed s
     planar e = record { reads = reads; plane = no_plane_lem true (eq-eqb (kind s) 0 e) }
@@ -199,20 +201,15 @@ module _ {s : List ℕ} (p : PlanePassed s) where
   row_passes : first (plane_rows (sheet_of s)) ≡ 0
   row_passes = first_none (plane_rows (sheet_of s)) (p.plane, tt)
 
-  pub plane_refused : (n : ℕ) → n ≡ first (frame_checks (sheet_of s) 0) → (n ≡ 0 → ⊥) → Picked (Refused n) (plane_pick_of s)
-  plane_refused n e h = picked_on s (Refused n) (pick_uncharted s (plane_rows (sheet_of s)) 0 (at_chosen s) (near_chosen s) p.reads (plane_own s) row_passes n e h)
+  pub plane_refused : (r : Refusal) → number_of r ≡ first (frame_checks (sheet_of s) 0) → Picked (Err r) (plane_pick_of s)
+  plane_refused r e = picked_on s (Err r) (pick_uncharted s (plane_rows (sheet_of s)) 0 (at_chosen s) (near_chosen s) p.reads (plane_own s) row_passes r e)
 
   -- the grid point was found in this frame, and the rings that were laid out are the sheet's
-  pub plane_answered : {close : Bool} {q : Place} {c : Candidate} {f : Frame} {u v : Float} {rings : List (List Point)} (r : Answer) → first (frame_checks (sheet_of s) 0) ≡ 0
+  pub plane_answered : {close : Bool} {q : Place} {c : Candidate} {f : Frame} {u v : Float} {rings : List (List Point)} (r : Result Values Refusal) → first (frame_checks (sheet_of s) 0) ≡ 0
       → f ≡ frame (sheet_of s) 0 → c ≡ chosen (sheet_of s) 0 → rings ≡ moved_rings (sheet_of s) 0 → u ≡ (answered f 0 c).x → v ≡ (answered f 0 c).y
       → q ≡ on_plane (numbers 9 (drop 8 s)) (point u v) → close ≡ too_close (sheet_of s) q (plane_images_of (numbers 9 (drop 8 s)) rings) → Picked r (closing close q c) → Picked r (plane_pick_of s)
   unfolding plane_images
   plane_answered {close} {q} {c} {f} {u} {v} {rings} r passes e d g eu ev here near z =
       let at : q ≡ at_chosen s = here ∙ (λ j. on_plane (plane_numbers j) (point ((eu ∙ ap₂ (λ (x : Frame) (y : Candidate). (answered x 0 y).x) e d) j) ((ev ∙ ap₂ (λ (x : Frame) (y : Candidate). (answered x 0 y).y) e d) j))) in
       let close-is : close ≡ near_chosen s = near ∙ (λ j. too_close (sheet_of s) (at j) (plane_images_of (plane_numbers j) (g j))) in
-      picked_on s r (
-        z.0
-            ∙ (λ j. closing (close-is j) (at j) (d j))
-            ∙ pick_closed s (plane_rows (sheet_of s)) 0 (at_chosen s) (near_chosen s) p.reads (plane_own s) row_passes passes,
-        z.1,
-      )
+      picked_on s r (z ∙ (λ j. closing (close-is j) (at j) (d j)) ∙ pick_closed s (plane_rows (sheet_of s)) 0 (at_chosen s) (near_chosen s) p.reads (plane_own s) row_passes passes)

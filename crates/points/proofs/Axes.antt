@@ -1,25 +1,17 @@
--- A fold over the coordinates of a list's points on one axis, a point at a time. The least and the greatest of numbers
--- as such folds.
+-- Points, axis by axis: the least and the greatest of their coordinates as folds, from infinity down and from -infinity
+-- up, and the four of them as one fold of the box, a point at a time.
 use mathlib.Core.Path.{◌≡◌, refl}
 use mathlib.Core.Bool.{true, false}
-use mathlib.Core.List.{List, foldl, map}
-use Prim.Native.Nat.{ℕ, ◌+◌, ◌*◌, ◌/◌, ◌<◌, ◌≤◌}
+use mathlib.Core.List.{List, [], ◌∷◌, foldl, map}
 use lib.Ieee.{Float, inf}
-use lib.ListN.{length, get_or, drop}
 use Rattle.leaves.specs.Bounds.{smaller_of, larger_of}
-use Rattle.sheet.specs.Content.{point, pairs}
-use Rattle.points.specs.Bounds.{axis_of, least, greatest}
-use Rattle.points.proofs.Pairs.{pairs_step, pairs_end}
+use Rattle.sheet.specs.Content.{Point, point}
+use Rattle.std.specs.List.{fold}
+use Rattle.points.specs.declared.bounds.Box.{Box}
+use Rattle.points.specs.Bounds.{axis_of, least, greatest, box_of, with_point}
 
-module _ (step : Float → Float → Float) (axis : ℕ) (xs : List Float) (k : ℕ) (found : Float) where
-  pub fold_step : (d : Float) → 2 * k + 1 < length xs
-      → foldl step found (map (axis_of axis) (pairs (drop (2 * k) xs))) ≡ foldl step (step found (axis_of axis (point (get_or xs (2 * k) d) (get_or xs (2 * k + 1) d)))) (map (axis_of axis) (pairs (drop (2 * (k + 1)) xs)))
-  fold_step d h = rw (pairs_step xs k d h)
+-- ---- one axis
 
-  pub fold_end : length xs / 2 ≤ k → foldl step found (map (axis_of axis) (pairs (drop (2 * k) xs))) ≡ found
-  fold_end h = rw (pairs_end xs k h)
-
--- from infinity down, and from -infinity up
 pub least_fold : (xs : List Float) → foldl smaller_of (inf false) xs ≡ least xs
 unfolding least
 least_fold xs = refl
@@ -27,3 +19,21 @@ least_fold xs = refl
 pub greatest_fold : (xs : List Float) → foldl larger_of (inf true) xs ≡ greatest xs
 unfolding greatest
 greatest_fold xs = refl
+
+-- ---- the box
+
+abbrev box : Point → Point → Box
+box least greatest = record { least = least; greatest = greatest }
+
+-- of no points
+abbrev pub empty_box : Box
+empty_box = box (point (inf false) (inf false)) (point (inf true) (inf true))
+
+boxed : (a b c d : Float) (ps : List Point) → fold with_point (box (point a b) (point c d)) ps ≡ box (point (foldl smaller_of a (map (axis_of 0) ps)) (foldl smaller_of b (map (axis_of 1) ps))) (point (foldl larger_of c (map (axis_of 0) ps)) (foldl larger_of d (map (axis_of 1) ps)))
+unfolding with_point axis_of
+boxed a b c d [] = refl
+boxed a b c d (p ∷ ps) = boxed (smaller_of a p.u) (smaller_of b p.v) (larger_of c p.u) (larger_of d p.v) ps
+
+pub box_found : (ps : List Point) → fold with_point empty_box ps ≡ box_of ps
+unfolding box_of least greatest
+box_found ps = boxed (inf false) (inf false) (inf true) (inf true) ps

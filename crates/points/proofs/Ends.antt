@@ -1,10 +1,14 @@
 -- The last of a list's items, and whether a ring goes around, by its first and its last point.
-use mathlib.Core.Path.{◌≡◌, refl}
+use mathlib.Core.Path.{◌≡◌, refl, sym}
+use mathlib.Core.Bool.{false}
 use mathlib.Core.List.{List, [], ◌∷◌}
-use Prim.Native.Nat.{suc, ◌-◌, ◌<◌}
+use Prim.Native.Nat.{suc, ◌-◌, ◌≤◌}
 use native.Mathlib.Omega.{arith}
 use lib.Ieee.{binary64, sub}
 use lib.ListN.{length, get_or}
+use Rattle.std.proofs.Common.{Some}
+use Rattle.std.proofs.lemmas.Option.{get_or_from_slice_get, none-some}
+use Rattle.std.specs.List.{slice_get}
 use Rattle.leaves.specs.Bounds.{exceeds_of}
 use Rattle.leaves.specs.Constants.{pi}
 use Rattle.sheet.specs.Content.{Point}
@@ -15,9 +19,14 @@ unfolding last_of
 last_at p [] d = refl
 last_at p (q ∷ ps) d = last_at q ps d
 
-pub around : (ring : List Point) (d e : Point) → 0 < length ring → goes_around ring ≡ exceeds_of (sub binary64 (get_or ring 0 d).u (get_or ring (length ring - 1) e).u) pi
+pub around_none : (ring : List Point) → length ring ≤ 0 → goes_around ring ≡ false
 unfolding goes_around
-around [] d e h = absurd (omega arith)
-around (p ∷ ps) d e h =
+around_none [] h = refl
+around_none (p ∷ ps) h = absurd (omega arith)
+
+pub around_some : (ring : List Point) (d last : Point) → Some last ≡ slice_get ring (length ring - 1) → goes_around ring ≡ exceeds_of (sub binary64 (get_or ring 0 d).u last.u) pi
+unfolding goes_around
+around_some [] d last h = absurd (none-some last (sym h))
+around_some (p ∷ ps) d last h =
     let n : suc (length ps) - 1 ≡ length ps = omega arith in
-    rw (last_at p ps e, n)
+    rw (last_at p ps last, ← n, get_or_from_slice_get (p ∷ ps) (length (p ∷ ps) - 1) last last (sym h))

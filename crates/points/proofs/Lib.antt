@@ -14,7 +14,6 @@ pub mod Reach
 -- the box, a ring's ends and its joins
 pub mod Axes
 pub mod Ends
-pub mod Boxes
 pub mod Seams
 pub mod Opening
 -- a ring's segments, one after the other, and a ring in a list of numbers, point by point

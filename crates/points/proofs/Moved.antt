@@ -3,21 +3,22 @@ use mathlib.Core.Path.{◌≡◌, refl, ap, ◌∙◌}
 use mathlib.Core.Bool.{Bool, true, false, cond}
 use mathlib.Core.List.{List, [], ◌∷◌, map}
 use Prim.Native.Nat.{ℕ, suc}
-use lib.Dec.{T, eqb}
-use lib.Ieee.{Float, binary64, sub, div, fits}
-use lib.Ieee.Fits.{add-fits, mul-fits}
+use lib.Dec.{eqb}
+use lib.Ieee.{Float, binary64, sub}
+use lib.Ieee.Fits.{add-fits}
 use lib.ListN.{length, length-map}
 use Rattle.leaves.specs.Constants.{tau}
-use Rattle.leaves.specs.Round.{round_of}
 use Rattle.leaves.specs.Wrap.{wrap_of}
 use Rattle.leaves.proofs.Choices.{Clear}
 use Rattle.leaves.proofs.Folds.{All}
 use Rattle.leaves.proofs.Signs.{add_clear}
 use Rattle.leaves.proofs.Wraps.{wrap_clear, wrap_fits}
+use Rattle.answers.proofs.Permutations.{all_map, all_weaken}
 use Rattle.sheet.specs.Content.{Point}
 pub use Rattle.sheet.proofs.Reading.{ClearPoint}
 use Rattle.points.specs.Turns.{turns}
 use Rattle.points.specs.Unroll.{wrapped, near, u_moves, v_moves, moved, follow, unrolled, moved_ring}
+use Rattle.points.proofs.WholeTurns.{turns_fits}
 
 either : (c : Bool) (x y : Float) → Clear binary64 x → Clear binary64 y → Clear binary64 (cond c x y)
 either true x y p q = p
@@ -28,10 +29,6 @@ either false x y p q = q
 pub wrapped_clear : (phase : ℕ) (p : Point) → ClearPoint p → ClearPoint (wrapped phase p)
 unfolding wrapped
 wrapped_clear phase p h = (h.0, either (eqb phase 1) (wrap_of p.v) p.v (record { held = wrap_fits p.v; unmarked = wrap_clear p.v }) h.1)
-
-turns_fits : (x period : Float) → T (fits binary64 (turns x period))
-unfolding turns
-turns_fits x period = mul-fits binary64 (round_of (div binary64 x period)) period
 
 -- whatever the previous one is
 pub near_clear : (previous x : Float) → Clear binary64 x → Clear binary64 (near previous x)
@@ -59,13 +56,11 @@ unfolding unrolled
 unrolled_clear kind [] h = tt
 unrolled_clear kind (p ∷ ps) h = (h.0, follow_clear kind p ps h.1)
 
-all_wrapped : (phase : ℕ) (ps : List Point) → All ClearPoint ps → All ClearPoint (map (wrapped phase) ps)
-all_wrapped phase [] h = tt
-all_wrapped phase (p ∷ ps) h = (wrapped_clear phase p h.0, all_wrapped phase ps h.1)
-
 pub moved_clear : (kind phase : ℕ) (ps : List Point) → All ClearPoint ps → All ClearPoint (moved_ring kind phase ps)
 unfolding moved_ring
-moved_clear kind phase ps h = unrolled_clear kind (map (wrapped phase) ps) (all_wrapped phase ps h)
+moved_clear kind phase ps h =
+    unrolled_clear kind (map (wrapped phase) ps)
+    (all_map ClearPoint (wrapped phase) ps (all_weaken ClearPoint (λ (p : Point). ClearPoint (wrapped phase p)) (wrapped_clear phase) ps h))
 
 -- ---- lengths
 

@@ -14,7 +14,7 @@ use Rattle.points.specs.Joins.{join, seams, joins, wide, ring_open, every}
 module _ (periodic : Bool) (scale_u scale_v : Float) (more : ℕ) (first : Point) where
   -- of the joins that are left: those of the points ps after the one before them, and the ring's first to its last
   unfoldable pub open_from : Point → ℕ → List Point → Bool
-  unfolding any_of seams every last_of
+  unfolding seams every last_of
   open_from before left ps = any_of (wide periodic scale_u scale_v) (seams before (every more left ps) ps ++ join first (last_of before ps) ∷ [])
 
   pub open_start : (ps : List Point) → ring_open periodic scale_u scale_v (every more 0 (first ∷ ps)) (first ∷ ps) ≡ open_from first more ps
@@ -41,6 +41,6 @@ module _ (periodic : Bool) (scale_u scale_v : Float) (more : ℕ) (first : Point
   open_end before left qs e = rw e (or-false (wide periodic scale_u scale_v (join first before)))
 
 pub no_points_open : (periodic : Bool) (scale_u scale_v : Float) (os : List Bool) (ps : List Point) → ps ≡ [] → ring_open periodic scale_u scale_v os ps ≡ false
-unfolding ring_open joins any_of
+unfolding ring_open joins
 no_points_open periodic scale_u scale_v [] ps e = refl
 no_points_open periodic scale_u scale_v (o ∷ os) ps e = rw e

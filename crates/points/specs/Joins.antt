@@ -60,7 +60,7 @@ unfolding lt gap
 wide periodic scale_u scale_v j = lt join_limit (gap periodic scale_u scale_v j)
 
 unfoldable pub ring_open : Bool → Float → Float → List Bool → List Point → Bool
-unfolding any_of wide joins
+unfolding wide joins
 ring_open periodic scale_u scale_v os ps = any_of (wide periodic scale_u scale_v) (joins os ps)
 
 -- `opens` of a ring whose coedges have `more` points each after their first; `left` points follow before the next

@@ -25,11 +25,10 @@ unfolding segments_from
 segments [] = []
 segments (p ∷ ps) = segments_from p p ps
 
--- those that the code's iterator (src/segment.rt) has yet to give: none where it has given the last, which ends in the
--- ring's first point
+-- those that the code's iterator (src/segment.rt) has yet to give
 unfoldable pub segments_left : {A : Type 0} → SegmentsLeft A → List (Between A)
 unfolding segments_from
-segments_left it = elim it.last [ None ↦ [] | Some last ↦ segments_from last.b last.a it.rest.now ]
+segments_left it = elim it.first [ None ↦ [] | Some first ↦ elim it.rest.now [ [] ↦ [] | a ∷ ps ↦ segments_from first a ps ] ]
 
 -- ---- in the chart
 

@@ -32,7 +32,6 @@ impl Box {
 }
 
 // The box of the points; infinities of no points.
-#[tactic(auto, using(crate::proofs::Boxes::box_found))]
 pub fn box_of(points: &[Point]) -> Box
     ensures { result ≡ box_of points.now }
 {
@@ -54,6 +53,7 @@ pub fn box_of(points: &[Point]) -> Box
 }
 
 // Whether the ring's first and last u differ by over PI.
+#[tactic(auto, using(crate::proofs::Ends::around_none, crate::proofs::Ends::around_some))]
 pub fn goes_around(ring: &[Point]) -> bool
     ensures { result ≡ goes_around ring.now }
 {

@@ -7,6 +7,7 @@ use leaves::constants::{JOIN_LIMIT, TAU};
 use sheet::Point;
 
 // A difference in u, less whole turns on a periodic chart.
+#[tactic(auto, unfolding(crate::specs::Joins::gap_u))]
 fn gap_u(periodic: bool, d: f64) -> f64
     ensures { result ≡ gap_u periodic d }
 {
@@ -14,6 +15,7 @@ fn gap_u(periodic: bool, d: f64) -> f64
 }
 
 // Whether the join from a to b is above the limit.
+#[tactic(auto, using(leaves::proofs::ConstantBits::join_limit_bits), unfolding(crate::specs::Joins::wide, crate::specs::Joins::gap))]
 fn is_wide(periodic: bool, scale: Point, a: Point, b: Point) -> bool
     ensures { result ≡ wide periodic scale.u scale.v (join a b) }
 {

@@ -1,9 +1,9 @@
 // A ring's points: read from the block, moved in place (rules 1 and 2), normalised in place or into another list
 // (rule 5).
-ghost use Rattle.std.specs.Prelude.{◌≡◌, map, ◌≤◌, length, drop};
-ghost use Rattle.sheet.specs.Content.{point, ring_points};
+ghost use Rattle.std.specs.Prelude.{◌≡◌, map, length};
+ghost use Rattle.sheet.specs.Content.{ring_points};
 ghost use Rattle.answers.specs.Lists.{over};
-ghost use Rattle.sheet.specs.Layout.{ring, points as points_at};
+ghost use Rattle.sheet.specs.Layout.{coedge, ring};
 ghost use Rattle.points.specs.Unroll.{near, wrapped, moved, moved_ring};
 ghost use Rattle.points.specs.Normalise.{normal};
 
@@ -11,17 +11,13 @@ use crate::turns::turns;
 use leaves::constants::TAU;
 use sheet::Point;
 
-// The points of the coedge whose points begin at `at`.
-fn read_coedge(block: &[u8], at: usize, points: &mut [Point])
-    requires { (at ≤ 80000) × (length points.old ≡ 17) }
-    ensures { points.new ≡ points_at 17 (drop at block.now) }
+// The points of a coedge.
+fn read_coedge(part: &[u8], points: &mut [Point])
+    requires { length points.old ≡ 17 }
+    ensures { points.new ≡ (coedge part.now).points }
 {
-    for (k, p) in points.iter_mut().enumerate() {
-        let from = at + 16 * k;
-        *p = Point {
-            u: sheet::number(block, from),
-            v: sheet::number(block, from + 8),
-        };
+    for (k, p) in sheet::points(part).enumerate() {
+        points[k] = p;
     }
 }
 
@@ -34,14 +30,9 @@ pub fn read(block: &[u8], points: &mut [Point])
     if points.len() < sheet::COEDGE_POINTS * count {
         return;
     }
-    for k in 0..count {
+    for (k, part) in sheet::coedges(block).enumerate() {
         let from = sheet::COEDGE_POINTS * k;
-        let to = from + sheet::COEDGE_POINTS;
-        read_coedge(
-            block,
-            sheet::FIRST_POINT + sheet::COEDGE_SIZE * k,
-            &mut points[from..to],
-        );
+        read_coedge(part, &mut points[from..from + sheet::COEDGE_POINTS]);
     }
 }
 
@@ -70,7 +61,7 @@ fn moved(kind: u8, previous: Point, p: Point) -> Point
     ensures { result ≡ moved kind previous p }
 {
     Point {
-        u: if 1 <= kind && kind <= 4 {
+        u: if matches!(kind, 1..=4) {
             near_previous(previous.u, p.u)
         } else {
             p.u

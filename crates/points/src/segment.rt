@@ -15,11 +15,10 @@ pub struct Between<A> {
 // Between two points of the chart.
 pub type Segment = Between<Point>;
 
-// The segments of a ring that are left: `last` goes from the point before the rest back to the ring's first, and there
-// is none where none is left.
+// The segments of a ring that are left: from each point of the rest to the next, and from the last to the ring's first.
 #[derive(Clone, Copy)]
 pub struct SegmentsLeft<'a, A> {
-    last: Option<Between<A>>,
+    first: Option<A>,
     rest: &'a [A],
 }
 
@@ -32,24 +31,13 @@ impl<'a, A: Copy> Iterator for SegmentsLeft<'a, A> {
 
     #[tactic(auto, unfolding(crate::specs::Segments::segments_left, crate::specs::Segments::segments_from))]
     fn next(&mut self) -> Option<Between<A>> {
-        let last = self.last?;
-        match self.rest.split_first() {
-            None => {
-                self.last = None;
-                Some(last)
-            }
-            Some((next, rest)) => {
-                self.last = Some(Between {
-                    a: *next,
-                    b: last.b,
-                });
-                self.rest = rest;
-                Some(Between {
-                    a: last.a,
-                    b: *next,
-                })
-            }
-        }
+        let first = self.first?;
+        let (a, rest) = self.rest.split_first()?;
+        self.rest = rest;
+        Some(Between {
+            a: *a,
+            b: rest.first().copied().unwrap_or(first),
+        })
     }
 }
 
@@ -58,17 +46,8 @@ impl<'a, A: Copy> Iterator for SegmentsLeft<'a, A> {
 pub fn segments<A: Copy>(ring: &[A]) -> SegmentsLeft<'_, A>
     ensures { segments_left result ≡ segments ring.now }
 {
-    match ring.split_first() {
-        None => SegmentsLeft {
-            last: None,
-            rest: ring,
-        },
-        Some((first, rest)) => SegmentsLeft {
-            last: Some(Between {
-                a: *first,
-                b: *first,
-            }),
-            rest,
-        },
+    SegmentsLeft {
+        first: ring.first().copied(),
+        rest: ring,
     }
 }

@@ -7,6 +7,7 @@ ghost use Rattle.points.specs.Turns.{keeps_order, turns as turns_of};
 use leaves::constants::GREATEST_FINITE;
 
 // The whole turns nearest to x: round(x / period) x period.
+#[tactic(auto, unfolding(crate::specs::Turns::turns))]
 pub fn turns(x: f64, period: f64) -> f64
     ensures { result ≡ turns_of x period }
 {
@@ -22,13 +23,9 @@ pub fn is_number(x: f64) -> bool
 
 // Whether the turns between mid and a column go with the order of the columns: the period is a number
 // above 0, and mid is a number.
+#[tactic(auto, unfolding(crate::specs::Turns::keeps_order))]
 pub fn keeps_order(period: f64, mid: f64) -> bool
     ensures { result ≡ keeps_order period mid }
 {
-    if 0.0 < period {
-        if is_number(period) {
-            return is_number(mid);
-        }
-    }
-    false
+    0.0 < period && is_number(period) && is_number(mid)
 }

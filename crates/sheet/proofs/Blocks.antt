@@ -13,7 +13,7 @@ use lib.Seq.{length-take-le, get_or-take, get_or-drop, take_at, drop_at}
 use borrow.Author.Tests.{leb-true, eqb-true, le-leb}
 use Rattle.leaves.proofs.Folds.{All}
 use Rattle.sheet.specs.Content.{Coedge, ring_points}
-use Rattle.sheet.specs.Layout.{block_size, cut, points, coedge, coedges, ring}
+use Rattle.sheet.specs.Layout.{kind, ring_count, head_size, block_size, cut, blocks, points, coedge, coedges, ring}
 use Rattle.sheet.specs.Checks.{fill}
 
 -- ---- sizes
@@ -135,3 +135,7 @@ all_points (c ∷ cs) h = simp length-append (omega (arith, h.0, all_points cs h
 
 pub ring_points_length : (b : List ℕ) → length (ring_points (ring b)) ≡ 17 * get_or b 0 0
 ring_points_length b = all_points (ring b) (coedge_points b) ∙ ap (λ (n : ℕ). 17 * n) (ring_length b)
+
+pub blocks_most : (s : List ℕ) → get_or s 7 0 < 256 → length (blocks s) ≤ 255
+unfolding blocks
+blocks_most s h = omega (arith, cut_length (ring_count s) (drop (head_size (kind s)) s))

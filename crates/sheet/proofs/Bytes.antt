@@ -2,11 +2,11 @@
 use mathlib.Core.Path.{◌≡◌, refl, ap, ◌∙◌}
 use mathlib.Core.List.{List, [], ◌∷◌, foldl, foldl-append}
 use Prim.Native.Nat.{ℕ, suc, ◌+◌, ◌*◌, ◌≤◌, ◌<◌}
-use native.Mathlib.Nat.{add-zero}
 use native.Mathlib.Omega.{arith}
-use lib.ListN.{length, get_or, take, drop, length-drop}
-use lib.Seq.{take-suc, drop-drop, get_or-drop}
+use lib.ListN.{length, get_or, take}
+use lib.Seq.{take-suc, get_or-take}
 use borrow.Author.Tests.{lt-ltb, le-ltb}
+use Rattle.std.specs.Int.{from_be_bytes, w64}
 use Rattle.leaves.specs.Constants.{plus_zero}
 use Rattle.sheet.specs.Layout.{big, number_of, number}
 
@@ -22,19 +22,14 @@ unfolding big
 big_none s = refl
 
 -- four bytes
-big_four : (s : List ℕ) → 4 ≤ length s → big (take 4 s) ≡ get_or s 0 0 * 0x1000000 + get_or s 1 0 * 0x10000 + get_or s 2 0 * 0x100 + get_or s 3 0
+pub big_four : (s : List ℕ) → 4 ≤ length s → big (take 4 s) ≡ get_or s 0 0 * 0x1000000 + get_or s 1 0 * 0x10000 + get_or s 2 0 * 0x100 + get_or s 3 0
 big_four s h = omega (arith, big_none s, big_step s 0 (omega arith), big_step s 1 (omega arith), big_step s 2 (omega arith), big_step s 3 (omega arith))
 
--- those that stand at a place
-pub word_at : (s : List ℕ) (at : ℕ) → at + 4 ≤ length s → big (take 4 (drop at s)) ≡ get_or s at 0 * 0x1000000 + get_or s (at + 1) 0 * 0x10000 + get_or s (at + 2) 0 * 0x100 + get_or s (at + 3) 0
-word_at s at h = big_four (drop at s) (simp length-drop (omega arith)) ∙ simp (get_or-drop, add-zero)
-
--- eight bytes are four and four
-pub two_words : (s : List ℕ) (at : ℕ) → at + 8 ≤ length s → big (take 8 (drop at s)) ≡ big (take 4 (drop at s)) * 0x100000000 + big (take 4 (drop (at + 4) s))
-two_words s at h = go (drop at s) (simp length-drop (omega arith)) ∙ simp drop-drop
-  where
-    go : (l : List ℕ) → 8 ≤ length l → big (take 8 l) ≡ big (take 4 l) * 0x100000000 + big (take 4 (drop 4 l))
-    go l h = omega (arith, big_step l 4 (omega arith), big_step l 5 (omega arith), big_step l 6 (omega arith), big_step l 7 (omega arith), word_at l 4 (omega arith))
+-- and eight, as std reads them
+pub big_eight : (s : List ℕ) → 8 ≤ length s → from_be_bytes w64 (take 8 s) ≡ big (take 8 s)
+big_eight s h =
+    let at : (i : ℕ) → i < 8 → get_or (take 8 s) i 0 ≡ get_or s i 0 = λ i l. get_or-take 8 s i 0 l in
+    omega (arith, big_four s (omega arith), big_step s 4 (omega arith), big_step s 5 (omega arith), big_step s 6 (omega arith), big_step s 7 (omega arith), at 0 (omega arith), at 1 (omega arith), at 2 (omega arith), at 3 (omega arith), at 4 (omega arith), at 5 (omega arith), at 6 (omega arith), at 7 (omega arith))
 
 -- ---- the number that s begins with
 

@@ -15,7 +15,7 @@ use Rattle.leaves.proofs.Magnitudes.{Most}
 use Rattle.sheet.specs.Content.{Point, Coedge, Sheet, ring_points}
 use Rattle.answers.specs.Limits.{beyond}
 use Rattle.answers.specs.Lists.{any_of}
-use Rattle.sheet.specs.Layout.{length_field, version, kind, sense, ring_count, head_size, plane, blocks, cut, ring, sheet_of}
+use Rattle.sheet.specs.Layout.{length_field, version, kind, sense, ring_count, head_size, plane, blocks, ring, sheet_of}
 use Rattle.answers.specs.Outcome.{Check, first}
 use Rattle.answers.proofs.AnyOf.{neither, any_false}
 use Rattle.answers.proofs.Finite.{not_beyond_most}
@@ -45,14 +45,14 @@ sheet_numbered s = all_append (λ (c : Check). 0 < c.number) (layout_checks s) (
 
 -- the rings that stand in the blocks: `(sheet_of s).rings`, computed
 abbrev pub rings_of : List ℕ → List (List Coedge)
-rings_of s = map ring (cut (ring_count s) (drop (head_size (kind s)) s))
+rings_of s = map ring (blocks s)
 
 pub rings_are : (s : List ℕ) → (sheet_of s).rings ≡ rings_of s
-unfolding sheet_of blocks
+unfolding sheet_of
 rings_are s = refl
 
 pub table : (s : List ℕ) → first (layout_checks s ++ content_checks (sheet_of s)) ≡ cond (length_wrong s) 1 (cond (version_wrong s) 2 (cond (kind_wrong s) 3 (cond (count_wrong s) 4 (cond (blocks_wrong s) 5 (cond (coedges_wrong (rings_of s)) 6 (cond (plane_wrong (plane s) || any_of ring_wrong (rings_of s)) 7 0))))))
-unfolding first layout_checks content_checks sheet_of blocks numbers_wrong
+unfolding first layout_checks content_checks sheet_of numbers_wrong
 table s = refl
 
 -- ---- a layout that reads: the checks down to 5 pass

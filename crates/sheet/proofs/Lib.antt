@@ -6,6 +6,7 @@ pub mod Bytes
 pub mod Reading
 -- blocks, the rings in them, and the walks over both
 pub mod Blocks
+pub mod Items
 pub mod Walks
 -- the kind, and a plane's numbers
 pub mod Planes

@@ -56,7 +56,7 @@ unfoldable pub coedge_total : List (List Coedge) → ℕ
 coedge_total rings = foldl (λ (n : ℕ) (r : List Coedge). n + length r) 0 rings
 
 unfoldable pub coedges_wrong : List (List Coedge) → Bool
-unfolding any_of empty coedge_total
+unfolding empty coedge_total
 coedges_wrong rings = any_of empty rings || ltb most_coedges (coedge_total rings)
 
 -- ---- 7: "not finite; or magnitude above: 2^20 chart coordinate or origin, 2 axis component; or deviation below 0 or
@@ -75,20 +75,20 @@ unfolding beyond
 point_wrong p = beyond coordinate_limit p.u || beyond coordinate_limit p.v
 
 unfoldable pub coedge_wrong : Coedge → Bool
-unfolding le lt any_of point_wrong
+unfolding le lt point_wrong
 coedge_wrong c = not (le plus_zero c.deviation && lt c.deviation deviation_limit) || any_of point_wrong c.points
 
 unfoldable pub ring_wrong : List Coedge → Bool
-unfolding any_of coedge_wrong
+unfolding coedge_wrong
 ring_wrong ring = any_of coedge_wrong ring
 
 -- origin, u axis, normal
 unfoldable pub plane_wrong : List Float → Bool
-unfolding any_of beyond
+unfolding beyond
 plane_wrong xs = any_of (beyond coordinate_limit) (take 3 xs) || any_of (beyond axis_limit) (drop 3 xs)
 
 unfoldable pub numbers_wrong : Sheet → Bool
-unfolding plane_wrong any_of ring_wrong
+unfolding plane_wrong ring_wrong
 numbers_wrong s = plane_wrong s.plane || any_of ring_wrong s.rings
 
 -- ---- the table

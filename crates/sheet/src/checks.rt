@@ -2,29 +2,30 @@
 ghost use Rattle.std.specs.Prelude.{◌≡◌, true, false, ◌++◌};
 ghost use Rattle.sheet.specs.Layout.{plane, sheet_of};
 ghost use Rattle.sheet.specs.Checks.{length_wrong, version_wrong, kind_wrong, count_wrong, blocks_wrong, plane_wrong, layout_checks, content_checks};
-ghost use Rattle.answers.specs.Outcome.{first};
+ghost use Rattle.answers.specs.Outcome.{first, status_of};
 
 use crate::fields::{byte_at, head_size, word};
 use crate::walk::{COORDINATE_LIMIT, any_beyond, blocks_fill, coedges_wrong, rings_wrong};
+use answers::Refusal;
 
 // 2, for a component of the u axis or the normal.
 const AXIS_LIMIT: f64 = 2.0;
 
-// The greatest kind.
+// The greatest kind and the greatest sense.
 const MOST_KIND: u8 = 6;
 
+const MOST_SENSE: u8 = 2;
+
 // 1: under 8 bytes, or a length field that is not the number of bytes after it.
+#[tactic(auto, unfolding(crate::specs::Checks::length_wrong))]
 fn length_wrong(s: &[u8]) -> bool
     ensures { result ≡ length_wrong s.now }
 {
-    if s.len() < 8 {
-        true
-    } else {
-        word(s, 0) != (s.len() - 4) as u64
-    }
+    s.len() < 8 || word(s) as usize != s.len() - 4
 }
 
 // 2: a version other than 1.
+#[tactic(auto, unfolding(crate::specs::Checks::version_wrong))]
 fn version_wrong(s: &[u8]) -> bool
     ensures { result ≡ version_wrong s.now }
 {
@@ -32,83 +33,64 @@ fn version_wrong(s: &[u8]) -> bool
 }
 
 // 3: a kind above 6 or a sense above 2.
+#[tactic(auto, unfolding(crate::specs::Checks::kind_wrong))]
 fn kind_wrong(s: &[u8]) -> bool
     ensures { result ≡ kind_wrong s.now }
 {
-    if MOST_KIND < byte_at(s, 5) {
-        true
-    } else {
-        2 < byte_at(s, 6)
-    }
+    MOST_KIND < byte_at(s, 5) || MOST_SENSE < byte_at(s, 6)
 }
 
 // 4: no ring, or more than 16.
+#[tactic(auto, unfolding(crate::specs::Checks::count_wrong))]
 fn count_wrong(s: &[u8]) -> bool
     ensures { result ≡ count_wrong s.now }
 {
-    if byte_at(s, 7) == 0 {
-        true
-    } else {
-        16 < byte_at(s, 7)
-    }
+    !(1..=16).contains(&byte_at(s, 7))
 }
 
 // 5: plane or ring blocks that overrun the end or leave bytes over.
+#[tactic(auto, unfolding(crate::specs::Checks::blocks_wrong))]
 fn blocks_wrong(s: &[u8]) -> bool
     ensures { result ≡ blocks_wrong s.now }
 {
     let from = head_size(byte_at(s, 5));
-    if s.len() < from {
-        true
-    } else {
-        !blocks_fill(s, from, byte_at(s, 7))
-    }
+    s.len() < from || !blocks_fill(&s[from..], byte_at(s, 7))
 }
 
 // 7, of a plane's origin, u axis and normal.
+#[tactic(auto, using(crate::proofs::Walks::plane_is, crate::proofs::Walks::no_plane_lem))]
 fn plane_wrong(s: &[u8]) -> bool
     ensures { result ≡ plane_wrong (plane s.now) }
 {
-    if byte_at(s, 5) == 0 {
-        if any_beyond(COORDINATE_LIMIT, s, 8, 3) {
-            true
-        } else {
-            any_beyond(AXIS_LIMIT, s, 32, 6)
-        }
-    } else {
-        false
-    }
+    byte_at(s, 5) == 0
+        && (any_beyond(COORDINATE_LIMIT, s, 8, 3) || any_beyond(AXIS_LIMIT, s, 32, 6))
 }
 
-// The number of the first check of 1 to 7 that fails, 0 where none does.
-pub fn refusal(s: &[u8]) -> u32
-    ensures { result ≡ first (layout_checks s.now ++ content_checks (sheet_of s.now)) }
+// The first check of 1 to 7 that fails.
+#[tactic(auto, using(crate::proofs::Checked::table), unfolding(answers::specs::Outcome::status_of, answers::specs::Outcome::number_of))]
+pub fn check(s: &[u8]) -> Result<(), Refusal>
+    ensures { status_of result ≡ first (layout_checks s.now ++ content_checks (sheet_of s.now)) }
 {
     if length_wrong(s) {
-        return 1;
+        return Err(Refusal::Length);
     }
     if version_wrong(s) {
-        return 2;
+        return Err(Refusal::Version);
     }
     if kind_wrong(s) {
-        return 3;
+        return Err(Refusal::Kind);
     }
     if count_wrong(s) {
-        return 4;
+        return Err(Refusal::RingCount);
     }
     if blocks_wrong(s) {
-        return 5;
+        return Err(Refusal::Blocks);
     }
-    let from = head_size(byte_at(s, 5));
-    let count = byte_at(s, 7);
-    if coedges_wrong(s, from, count) {
-        return 6;
+    if coedges_wrong(s) {
+        return Err(Refusal::Coedges);
     }
-    if plane_wrong(s) {
-        return 7;
+    if plane_wrong(s) || rings_wrong(s) {
+        return Err(Refusal::Numbers);
     }
-    if rings_wrong(s, from, count) {
-        return 7;
-    }
-    0
+    Ok(())
 }

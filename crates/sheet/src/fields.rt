@@ -29,24 +29,15 @@ pub const SMALL_NUMBERS: usize = 544;
 pub fn byte_at(s: &[u8], at: usize) -> u8
     ensures { result ≡ get_or s.now at 0 }
 {
-    if at < s.len() { s[at] } else { 0 }
+    s.get(at).copied().unwrap_or(0)
 }
 
-fn wide(b: u8) -> u64
-    ensures { (result ≡ b) × (result < 256) }
+// The number of the first four bytes, big-endian.
+pub(crate) fn word(s: &[u8]) -> u32
+    requires { 4 ≤ length s.now }
+    ensures { result ≡ big (take 4 s.now) }
 {
-    b as u64
-}
-
-// The number of the four bytes at a place, big-endian.
-pub(crate) fn word(s: &[u8], at: usize) -> u64
-    requires { at + 4 ≤ length s.now }
-    ensures { (result ≡ big (take 4 (drop at s.now))) × (result < 0x100000000) }
-{
-    wide(s[at]) * 0x100_0000
-        + wide(s[at + 1]) * 0x1_0000
-        + wide(s[at + 2]) * 0x100
-        + wide(s[at + 3])
+    u32::from_be_bytes([s[0], s[1], s[2], s[3]])
 }
 
 // The f64 of these bits; -0 as +0. from_bits takes no NaN's pattern, so a NaN is made anew.
@@ -66,16 +57,17 @@ fn float(bits: u64) -> f64
 pub fn number(s: &[u8], at: usize) -> f64
     ensures { result ≡ number_at (drop at s.now) }
 {
-    if s.len() < 8 {
+    let Some(rest) = s.get(at..) else {
         return 0.0;
-    }
-    if s.len() - 8 < at {
+    };
+    let Some(bytes) = rest.first_chunk::<8>() else {
         return 0.0;
-    }
-    float(word(s, at) * 0x1_0000_0000 + word(s, at + 4))
+    };
+    float(u64::from_be_bytes(*bytes))
 }
 
 // How many bytes stand before the ring blocks: a plane has nine numbers there.
+#[tactic(auto, unfolding(crate::specs::Layout::head_size))]
 pub fn head_size(kind: u8) -> usize
     ensures { result ≡ head_size kind }
 {
@@ -83,6 +75,7 @@ pub fn head_size(kind: u8) -> usize
 }
 
 // The size of the ring block that starts at a place.
+#[tactic(auto, unfolding(crate::specs::Layout::block_size))]
 pub fn block_size(s: &[u8], at: usize) -> usize
     ensures { result ≡ block_size (drop at s.now) }
 {

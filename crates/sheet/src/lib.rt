@@ -5,12 +5,14 @@
 
 mod checks;
 mod fields;
+mod parts;
 mod point;
 mod walk;
 
-pub use checks::refusal;
+pub use checks::check;
 pub use fields::{
     BLOCK_HEAD, COEDGE_NUMBERS, COEDGE_POINTS, COEDGE_SIZE, FIRST_POINT, MOST_COEDGES,
     MOST_NUMBERS, MOST_RINGS, SMALL_NUMBERS, block_size, byte_at, head_size, number,
 };
+pub use parts::{BlockCoedges, CoedgePoints, RingBlocks, coedges, points, ring_blocks};
 pub use point::Point;

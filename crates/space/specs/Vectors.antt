@@ -1,13 +1,11 @@
 -- The helpers of sketch.rs on three coordinates, in its order of operations.
-use Rattle.std.specs.Prelude.{Bool, true, false, cond, ◌&&◌, Float}
+use Rattle.std.specs.Prelude.{Bool, false, cond, ◌&&◌, Float, Option, Some, None, is_none, unwrap_or}
 use Rattle.std.specs.Float.{inf, binary64}
 use Rattle.std.specs.Float.Ieee.{add, sub, mul, div, lt}
 use Rattle.leaves.specs.Constants.{plus_zero, parallel}
 use Rattle.leaves.specs.Hypot.{hypot3_of}
 use Rattle.leaves.specs.Root.{root_of}
 use Rattle.space.specs.declared.vectors.Place.{Place}
-use Rattle.space.specs.declared.vectors.UnitVector.{UnitVector}
-use Rattle.space.specs.declared.vectors.UnitVector.TheVariants.{Along, Missing}
 
 abbrev pub place : Float → Float → Float → Place
 place x y z = record { x = x; y = y; z = z }
@@ -49,15 +47,13 @@ unfoldable pub over : Place → Float → Place
 unfolding div
 over v length = place (div binary64 v.x length) (div binary64 v.y length) (div binary64 v.z length)
 
-unfoldable pub unit_of : Place → UnitVector
+unfoldable pub unit_of : Place → Option Place
 unfolding unit_serves over length_of
-unit_of v = cond (unit_serves (length_of v)) (Along (over v (length_of v))) Missing
+unit_of v = cond (unit_serves (length_of v)) (Some (over v (length_of v))) None
 
-unfoldable pub unit_fails : UnitVector → Bool
-unit_fails (Along p) = false
-unit_fails Missing = true
+abbrev pub unit_fails : Option Place → Bool
+unit_fails v = is_none v
 
 -- the vector; zeros where `unit` fails
-unfoldable pub along_of : UnitVector → Place
-along_of (Along p) = p
-along_of Missing = place plus_zero plus_zero plus_zero
+abbrev pub along_of : Option Place → Place
+along_of v = unwrap_or v (place plus_zero plus_zero plus_zero)

@@ -6,4 +6,4 @@ mod places;
 mod vectors;
 
 pub use places::place_at;
-pub use vectors::{Place, UnitVector, along, cross, distance, dot, fails, length, minus, unit};
+pub use vectors::{ORIGIN, Place, cross, distance, dot, length, minus, unit};

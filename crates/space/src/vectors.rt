@@ -1,23 +1,24 @@
 // Differences, products and lengths, operation by operation as in sketch.rs.
 ghost use Rattle.std.specs.Prelude.{◌≡◌};
-ghost use Rattle.space.specs.Vectors.{minus_of, dot_of, cross_of, distance_of, length_of, unit_serves, over as over_of, unit_of, unit_fails, along_of};
+ghost use Rattle.space.specs.Vectors.{minus_of, dot_of, cross_of, distance_of, length_of, unit_serves, over as over_of, unit_of};
 
 use leaves::constants::PARALLEL;
 
-#[derive(Clone, Copy)]
+#[derive(Clone, Copy, Debug, PartialEq)]
 pub struct Place {
     pub x: f64,
     pub y: f64,
     pub z: f64,
 }
 
-// A vector of length one, or none.
-#[derive(Clone, Copy)]
-pub enum UnitVector {
-    Along(Place),
-    Missing,
-}
+// Zeros.
+pub const ORIGIN: Place = Place {
+    x: 0.0,
+    y: 0.0,
+    z: 0.0,
+};
 
+#[tactic(auto, unfolding(crate::specs::Vectors::minus_of))]
 pub fn minus(a: Place, b: Place) -> Place
     ensures { result ≡ minus_of a b }
 {
@@ -28,12 +29,14 @@ pub fn minus(a: Place, b: Place) -> Place
     }
 }
 
+#[tactic(auto, unfolding(crate::specs::Vectors::dot_of))]
 pub fn dot(a: Place, b: Place) -> f64
     ensures { result ≡ dot_of a b }
 {
     a.x * b.x + a.y * b.y + a.z * b.z
 }
 
+#[tactic(auto, unfolding(crate::specs::Vectors::cross_of))]
 pub fn cross(a: Place, b: Place) -> Place
     ensures { result ≡ cross_of a b }
 {
@@ -45,6 +48,7 @@ pub fn cross(a: Place, b: Place) -> Place
 }
 
 // The three-term hypotenuse of a - b.
+#[tactic(auto, unfolding(crate::specs::Vectors::distance_of))]
 pub fn distance(a: Place, b: Place) -> f64
     ensures { result ≡ distance_of a b }
 {
@@ -52,6 +56,7 @@ pub fn distance(a: Place, b: Place) -> f64
 }
 
 // The root of v dot v; no hypotenuse.
+#[tactic(auto, unfolding(crate::specs::Vectors::length_of))]
 pub fn length(v: Place) -> f64
     ensures { result ≡ length_of v }
 {
@@ -62,14 +67,11 @@ pub fn length(v: Place) -> f64
 fn serves(length: f64) -> bool
     ensures { result ≡ unit_serves length }
 {
-    if PARALLEL < length {
-        length < 1.0 / 0.0
-    } else {
-        false
-    }
+    PARALLEL < length && length < 1.0 / 0.0
 }
 
 // Each coordinate over the length.
+#[tactic(auto, unfolding(crate::specs::Vectors::over))]
 fn over(v: Place, length: f64) -> Place
     ensures { result ≡ over_of v length }
 {
@@ -81,37 +83,10 @@ fn over(v: Place, length: f64) -> Place
 }
 
 // The vector of length one along v, where v is longer than PARALLEL and its length finite.
-pub fn unit(v: Place) -> UnitVector
+#[tactic(auto, unfolding(crate::specs::Vectors::unit_of))]
+pub fn unit(v: Place) -> Option<Place>
     ensures { result ≡ unit_of v }
 {
     let size = length(v);
-    if serves(size) {
-        UnitVector::Along(over(v, size))
-    } else {
-        UnitVector::Missing
-    }
-}
-
-// Whether there is none.
-pub fn fails(v: UnitVector) -> bool
-    ensures { result ≡ unit_fails v }
-{
-    match v {
-        UnitVector::Along(_) => false,
-        UnitVector::Missing => true,
-    }
-}
-
-// The vector; zeros where there is none.
-pub fn along(v: UnitVector) -> Place
-    ensures { result ≡ along_of v }
-{
-    match v {
-        UnitVector::Along(p) => p,
-        UnitVector::Missing => Place {
-            x: 0.0,
-            y: 0.0,
-            z: 0.0,
-        },
-    }
+    serves(size).then(|| over(v, size))
 }

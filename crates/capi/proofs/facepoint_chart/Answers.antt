@@ -16,4 +16,4 @@ unfolding chart_seen
 returns c =
     let a = c.args in
     let call = c.chart in
-    chart_of_five (chart_of a.sheet.now a.phase a.points.now) a.points.now a.list.now _ _ _ call.result c.if-list-ne-RESULT_LENGTH.false call.ensures.0 c.put.ensures
+    chart_of_five (chart_of a.sheet.now a.phase a.points.now) a.points.now a.list.now _ _ _ call.result c.if-list-ne-RESULT_LENGTH.false call.ensures c.put.ensures

@@ -9,4 +9,4 @@ pub returns : goal.returns
 unfolding plane_pick_returned
 returns c =
     let a = c.args in
-    c.put.ensures ∙ ap (λ (n : Numbers). returned_of n a.list.now) c.plane_pick.ensures.0
+    c.put.ensures ∙ ap (λ (n : Numbers). returned_of n a.list.now) c.plane_pick.ensures

@@ -1,22 +1,31 @@
 -- `chart::call::chart` meets its contract: the checks 1 to 8, then 9, by the contracts of what makes them; then the
 -- call in lists by size.
-use mathlib.Core.Path.{sym, ◌∙◌}
+use mathlib.Core.Path.{sym}
 use native.Mathlib.Omega.{arith}
-use Rattle.chart.proofs.Calling.{call_unread, call_no_room, call_passes}
+use Rattle.std.proofs.lemmas.Result.{err_from_is_err_and}
+use Rattle.answers.specs.Outcome.{status_of}
+use Rattle.frame.proofs.SheetFrame.{points_most}
+use Rattle.chart.proofs.Calling.{call_unread, call_no_room, call_passes, reads_of}
 use Rattle.chart.proofs.call.chart.Goals as goal
 
-pub returns-then-refusal-ne0 : goal.returns-then-refusal-ne0
-returns-then-refusal-ne0 c = call_unread c.args.s.now c.args.phase c.args.points.now _ c.refusal-refusal.ensures c.if-refusal-ne0.true
+pub returns-in_err-check : goal.returns-in_err-check
+unfolding status_of
+returns-in_err-check c =
+    let p = err_from_is_err_and c.from_residual.result c.from_residual.ensures.1 in
+    rw (p.1, p.2) (call_unread c.args.s.now c.args.phase c.args.points.now _ c.in_err-check.ensures)
 
 pub returns-then-points-n : goal.returns-then-points-n
-returns-then-points-n c = call_no_room c.args.s.now c.args.phase c.args.points.now (sym c.refusal-refusal.ensures ∙ c.if-refusal-ne0.false) (omega (arith, c.point_numbers-n.ensures, c.if-points-n.true))
+unfolding status_of
+returns-then-points-n c = call_no_room c.args.s.now c.args.phase c.args.points.now (sym c.in_ok-check.ensures) (omega (arith, c.point_numbers-n.ensures, c.if-points-n.true))
 
-pub chart_small-requires : goal.chart_small-requires
-chart_small-requires c =
-    let passes = sym c.refusal-refusal.ensures ∙ c.if-refusal-ne0.false in
-    (call_passes c.args.s.now c.args.phase c.args.points.now passes (omega (arith, c.point_numbers-n.ensures, c.if-points-n.false)), c.point_numbers-n.ensures, c.byte_at-count.ensures, c.if-n-le-SMALL_NUMBERS.true)
+pub chart_within-requires : goal.chart_within-requires
+unfolding status_of
+chart_within-requires c =
+    (call_passes c.args.s.now c.args.phase c.args.points.now (sym c.in_ok-check.ensures) (omega (arith, c.point_numbers-n.ensures, c.if-points-n.false)), c.point_numbers-n.ensures, c.byte_at-count.ensures, c.if-n-le-SMALL_NUMBERS.true, omega arith)
 
-pub chart_large-requires : goal.chart_large-requires
-chart_large-requires c =
-    let passes = sym c.refusal-refusal.ensures ∙ c.if-refusal-ne0.false in
-    (call_passes c.args.s.now c.args.phase c.args.points.now passes (omega (arith, c.point_numbers-n.ensures, c.if-points-n.false)), c.point_numbers-n.ensures, c.byte_at-count.ensures)
+pub chart_within-requires-else-n-le-SMALL_NUMBERS : goal.chart_within-requires-else-n-le-SMALL_NUMBERS
+unfolding status_of
+chart_within-requires-else-n-le-SMALL_NUMBERS c =
+    let passes = sym c.in_ok-check.ensures in
+    let most = points_most c.args.s.now (reads_of c.args.s.now c.args.phase passes) in
+    (call_passes c.args.s.now c.args.phase c.args.points.now passes (omega (arith, c.point_numbers-n.ensures, c.if-points-n.false)), c.point_numbers-n.ensures, c.byte_at-count.ensures, omega (arith, c.point_numbers-n.ensures, most), omega arith)

@@ -4,10 +4,13 @@
 use mathlib.Core.List.{List, flatten}
 use Prim.Native.Nat.{ℕ}
 use lib.Ieee.{Float}
-use mathlib.Core.Path.{◌≡◌, sym, ap₂, ◌∙◌}
+use mathlib.Core.Path.{◌≡◌, sym, ap, ap₂, ◌∙◌}
 use mathlib.Core.Bool.{Bool, true}
 use native.Mathlib.Omega.{arith}
 use lib.ListN.{length}
+use Rattle.std.specs.Prelude.{Ok}
+use Rattle.std.proofs.lemmas.Result.{err_from_is_err_and}
+use Rattle.answers.specs.Outcome.{numbered}
 use Rattle.sheet.specs.Content.{Sheet, flat}
 use Rattle.frame.specs.declared.framing.Frame.{Frame}
 use Rattle.search.specs.declared.candidate.Candidate.{Candidate}
@@ -20,7 +23,7 @@ use Rattle.frame.proofs.Counting.{ring_number}
 use Rattle.frame.proofs.LaidOut.{fitting_is, laid_points_lem, laid_ends_lem, told_ready, told_refused, passed_fits}
 use Rattle.frame.proofs.Parting.{packed, rings_are}
 use Rattle.chart.specs.Chart.{candidate, chosen, normalised_by}
-use Rattle.chart.specs.declared.grid_point.Found.TheVariants.{Chosen}
+use Rattle.chart.specs.Found.{found}
 use Rattle.chart.proofs.AnyOrder.{chosen_in}
 use Rattle.chart.proofs.Finding.{above_limit, found_refused, found_14, found_chosen}
 use Rattle.chart.proofs.grid_point.find.Goals as goal
@@ -45,34 +48,37 @@ pub chosen-best-requires : goal.chosen-best-requires
 chosen-best-requires c =
     let z = sheet_of c.args.s.now in
     let fits = fitting z (length c.args.points.now) (length c.args.ends.now) in
-    let ready = told_ready z c.args.phase fits _ (sym c.lay_out.ensures.0 ∙ c.in-Ready.is) in
+    let ready = told_ready z c.args.phase fits _ c.lay_out.ensures.0 c.in_ok-frame.was in
     let laid = held z c.args.phase c.args.points.now c.args.ends.now (passed_fits z c.args.phase fits ready.0) c.lay_out.ensures.1 c.lay_out.ensures.2 in
     let size = fitting_is z (length c.args.points.now) (length c.args.ends.now) (passed_fits z c.args.phase fits ready.0) in
     let kept = c.lay_out.auto in
     (rw (laid.points_are, laid.ends_are) (packed _), omega (arith, kept.points, size.most), omega (arith, kept.ends, size.ends_are, ring_number c.args.s.now, c.type_inv.s 7))
 
-pub returns-in-Refused : goal.returns-in-Refused
-returns-in-Refused c =
+pub returns-in_err-frame : goal.returns-in_err-frame
+unfolding numbered
+returns-in_err-frame c =
     let z = sheet_of c.args.s.now in
     let phase = c.args.phase in
     let b = fitting z (length c.args.points.now) (length c.args.ends.now) in
-    let t = told_refused z phase b _ (sym c.lay_out.ensures.0 ∙ c.in-Refused.is) in
-    (found_refused b z phase _ t.0 t.1, c.lay_out.ensures.1, c.lay_out.ensures.2)
+    let p = err_from_is_err_and c.from_residual.result c.from_residual.ensures.1 in
+    rw (p.1, p.2) (found_refused b z phase _ (told_refused z phase b _ c.lay_out.ensures.0 c.in_err-frame.was), c.lay_out.ensures.1, c.lay_out.ensures.2)
 
 pub returns-then-best : goal.returns-then-best
+unfolding numbered
 returns-then-best c =
     let z = sheet_of c.args.s.now in
     let fits = fitting z (length c.args.points.now) (length c.args.ends.now) in
-    let ready = told_ready z c.args.phase fits _ (sym c.lay_out.ensures.0 ∙ c.in-Ready.is) in
+    let ready = told_ready z c.args.phase fits _ c.lay_out.ensures.0 c.in_ok-frame.was in
     let laid = held z c.args.phase c.args.points.now c.args.ends.now (passed_fits z c.args.phase fits ready.0) c.lay_out.ensures.1 c.lay_out.ensures.2 in
     let best-is : c.chosen-best.result ≡ chosen z c.args.phase = best z c.args.phase laid ready.1 (c.byte_at.ensures ∙ sym (sheet_sense c.args.s.now)) c.chosen-best.ensures in
-    (ap₂ Chosen ready.1 best-is ∙ found_chosen fits z c.args.phase ready.0 (above_limit best-is c.if-best.true), c.lay_out.ensures.1, c.lay_out.ensures.2)
+    (ap Ok (ap₂ found ready.1 best-is) ∙ found_chosen fits z c.args.phase ready.0 (above_limit best-is c.if-best.true), c.lay_out.ensures.1, c.lay_out.ensures.2)
 
 pub returns-else-best : goal.returns-else-best
+unfolding numbered
 returns-else-best c =
     let z = sheet_of c.args.s.now in
     let fits = fitting z (length c.args.points.now) (length c.args.ends.now) in
-    let ready = told_ready z c.args.phase fits _ (sym c.lay_out.ensures.0 ∙ c.in-Ready.is) in
+    let ready = told_ready z c.args.phase fits _ c.lay_out.ensures.0 c.in_ok-frame.was in
     let laid = held z c.args.phase c.args.points.now c.args.ends.now (passed_fits z c.args.phase fits ready.0) c.lay_out.ensures.1 c.lay_out.ensures.2 in
     let best-is : c.chosen-best.result ≡ chosen z c.args.phase = best z c.args.phase laid ready.1 (c.byte_at.ensures ∙ sym (sheet_sense c.args.s.now)) c.chosen-best.ensures in
     (found_14 fits z c.args.phase ready.0 (above_limit best-is c.if-best.false), c.lay_out.ensures.1, c.lay_out.ensures.2)

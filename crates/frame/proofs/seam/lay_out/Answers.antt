@@ -7,7 +7,9 @@ use mathlib.Core.Bool.{Bool, true}
 use Prim.Native.Nat.{ℕ, ◌≤◌}
 use native.Mathlib.Omega.{arith}
 use lib.ListN.{length, drop}
-use Rattle.answers.specs.Outcome.{first}
+use Rattle.std.specs.Prelude.{Ok}
+use Rattle.std.proofs.lemmas.Result.{err_from_is_err_and}
+use Rattle.answers.specs.Outcome.{first, numbered, status_of}
 use Rattle.sheet.specs.Content.{Point, flat, pairs}
 use Rattle.sheet.specs.Layout.{kind, head_size, ring_count, sheet_of}
 use Rattle.sheet.proofs.Checked.{head_size_most}
@@ -17,7 +19,6 @@ use Rattle.frame.specs.Parts.{ends_from, rings_from, Packed}
 use Rattle.frame.specs.Seam.{fitting, laid_points, laid_ends}
 use Rattle.frame.specs.Stages.{moved_blocks, open_every}
 use Rattle.frame.specs.declared.framing.Frame.{Frame}
-use Rattle.frame.specs.declared.seam.Framed.TheVariants.{Ready}
 use Rattle.frame.proofs.Counting.{ring_number}
 use Rattle.frame.proofs.LaidOut.{Fitting, fitting_is, laid_points_lem, laid_ends_lem, unlaid, framed_ready, framed_refused}
 use Rattle.frame.proofs.Parting.{packed, packed_ascends, packed_points, rings_are}
@@ -89,33 +90,36 @@ frame_of-frame-requires c =
     let laid = prepared s c.args.phase c.byte_at-kind.ensures c.head_size.ensures (ends_count s (fitting_is _ _ _ fits)) c.prepare.ensures in
     packed_ascends (packed_in laid)
 
-pub joins_refusal-number-requires : goal.joins_refusal-number-requires
-joins_refusal-number-requires c =
+pub check_joins-requires : goal.check_joins-requires
+check_joins-requires c =
     let s = c.args.s.now in
     let fits : fitting (sheet_of s) (length c.args.points.now) (length c.args.ends.now) ≡ true = sym c.is_fitting.ensures ∙ c.if-not-is_fitting.false in
     let laid = prepared s c.args.phase c.byte_at-kind.ensures c.head_size.ensures (ends_count s (fitting_is _ _ _ fits)) c.prepare.ensures in
     packed_ascends (packed_in laid)
 
-pub returns-then-number-eq0 : goal.returns-then-number-eq0
-returns-then-number-eq0 c =
+pub returns-in_err-check_joins : goal.returns-in_err-check_joins
+unfolding numbered status_of
+returns-in_err-check_joins c =
     let s = c.args.s.now in
     let fits : fitting (sheet_of s) (length c.args.points.now) (length c.args.ends.now) ≡ true = sym c.is_fitting.ensures ∙ c.if-not-is_fitting.false in
     let laid = prepared s c.args.phase c.byte_at-kind.ensures c.head_size.ensures (ends_count s (fitting_is _ _ _ fits)) c.prepare.ensures in
     let same = frame_is laid _ c.byte_at-kind.ensures c.frame_of-frame.ensures in
-    let number = number_is laid same c.joins_refusal-number.ensures in (
-      ap Ready same ∙ framed_ready (sheet_of s) c.args.phase fits (sym number ∙ c.if-number-eq0.true),
+    let number = number_is laid same c.in_err-check_joins.ensures in
+    let p = err_from_is_err_and c.from_residual.result c.from_residual.ensures.1 in
+    rw (p.1, p.2) (
+      framed_refused (sheet_of s) c.args.phase _ fits number,
       points_laid laid c.args.points.now fits,
       ends_laid laid c.args.ends.now fits,
     )
 
-pub returns-else-number-eq0 : goal.returns-else-number-eq0
-returns-else-number-eq0 c =
+pub returns : goal.returns
+unfolding numbered status_of
+returns c =
     let s = c.args.s.now in
     let fits : fitting (sheet_of s) (length c.args.points.now) (length c.args.ends.now) ≡ true = sym c.is_fitting.ensures ∙ c.if-not-is_fitting.false in
     let laid = prepared s c.args.phase c.byte_at-kind.ensures c.head_size.ensures (ends_count s (fitting_is _ _ _ fits)) c.prepare.ensures in
-    let same = frame_is laid _ c.byte_at-kind.ensures c.frame_of-frame.ensures in
-    let number = number_is laid same c.joins_refusal-number.ensures in (
-      framed_refused (sheet_of s) c.args.phase c.joins_refusal-number.result fits number c.if-number-eq0.false,
+    let same = frame_is laid _ c.byte_at-kind.ensures c.frame_of-frame.ensures in (
+      ap Ok same ∙ framed_ready (sheet_of s) c.args.phase fits (sym (number_is laid same c.in_ok-check_joins.ensures)),
       points_laid laid c.args.points.now fits,
       ends_laid laid c.args.ends.now fits,
     )

@@ -1,22 +1,35 @@
 -- `picker::call::image_pick` meets its contract: the checks 1 to 8, then 10, by the contracts of what makes them; then
 -- the pick in lists by size.
-use mathlib.Core.Path.{◌≡◌, sym, ◌∙◌}
-use Rattle.answers.specs.Outcome.{first}
-use Rattle.frame.specs.Seam.{phase_checks}
+use mathlib.Core.Path.{sym, ◌∙◌}
+use native.Mathlib.Omega.{arith}
+use Rattle.std.proofs.lemmas.Result.{err_from_is_err_and}
+use Rattle.answers.specs.Outcome.{status_of}
 use Rattle.frame.proofs.SheetFrame.{points_most}
 use Rattle.chart.proofs.Calling.{reads_of}
 use Rattle.picker.proofs.Calling.{image_unread, image_wrong}
 use Rattle.picker.proofs.call.image_pick.Goals as goal
 
-pub returns-then-refusal-ne0 : goal.returns-then-refusal-ne0
-returns-then-refusal-ne0 c = image_unread c.args.s.now c.args.phase c.args.images.now _ c.refusal-refusal.ensures c.if-refusal-ne0.true
+pub returns-in_err-check : goal.returns-in_err-check
+unfolding status_of
+returns-in_err-check c =
+    let p = err_from_is_err_and c.from_residual.result c.from_residual.ensures.1 in
+    rw (p.1, p.2) (image_unread c.args.s.now c.args.phase c.args.images.now _ c.in_err-check.ensures)
 
 pub images_wrong-requires : goal.images_wrong-requires
-images_wrong-requires c =
-    let passes : first (phase_checks c.args.s.now c.args.phase) ≡ 0 = sym c.refusal-refusal.ensures ∙ c.if-refusal-ne0.false in
-    points_most c.args.s.now (reads_of c.args.s.now c.args.phase passes)
+unfolding status_of
+images_wrong-requires c = points_most c.args.s.now (reads_of c.args.s.now c.args.phase (sym c.in_ok-check.ensures))
 
 pub returns-then-images_wrong : goal.returns-then-images_wrong
-returns-then-images_wrong c =
-    let passes : first (phase_checks c.args.s.now c.args.phase) ≡ 0 = sym c.refusal-refusal.ensures ∙ c.if-refusal-ne0.false in
-    image_wrong c.args.s.now c.args.phase c.args.images.now passes (sym c.images_wrong.ensures ∙ c.if-images_wrong.true)
+unfolding status_of
+returns-then-images_wrong c = image_wrong c.args.s.now c.args.phase c.args.images.now (sym c.in_ok-check.ensures) (sym c.images_wrong.ensures ∙ c.if-images_wrong.true)
+
+pub image_within-requires : goal.image_within-requires
+unfolding status_of
+image_within-requires c =
+    (record { passes = sym c.in_ok-check.ensures; images_right = sym c.images_wrong.ensures ∙ c.if-images_wrong.false }, c.point_numbers-n.ensures, c.byte_at-count.ensures, c.if-n-le-SMALL_NUMBERS.true, omega arith)
+
+pub image_within-requires-else-n-le-SMALL_NUMBERS : goal.image_within-requires-else-n-le-SMALL_NUMBERS
+unfolding status_of
+image_within-requires-else-n-le-SMALL_NUMBERS c =
+    let most = points_most c.args.s.now (reads_of c.args.s.now c.args.phase (sym c.in_ok-check.ensures)) in
+    (record { passes = sym c.in_ok-check.ensures; images_right = sym c.images_wrong.ensures ∙ c.if-images_wrong.false }, c.point_numbers-n.ensures, c.byte_at-count.ensures, omega (arith, c.point_numbers-n.ensures, most), omega arith)

@@ -4,7 +4,7 @@ use lib.Ieee.{neg, div, of_bits}
 use Rattle.std.proofs.lemmas.List.{take_all}
 use Rattle.std.specs.List.{fold}
 use Rattle.points.specs.Bounds.{with_point}
-use Rattle.points.proofs.Boxes.{empty, box_found}
+use Rattle.points.proofs.Axes.{empty_box, box_found}
 use Rattle.points.proofs.bounds.box_of.Goals as goal
 
 pub loop-p-init : goal.loop-p-init
@@ -12,4 +12,4 @@ unfolding div neg of_bits
 loop-p-init c = refl
 
 pub returns : goal.returns
-returns c = c.loop-p.invariant ∙ ap (fold with_point empty) (take_all c.loop-p.p-index c.args.points.now (omega arith)) ∙ box_found c.args.points.now
+returns c = c.loop-p.invariant ∙ ap (fold with_point empty_box) (take_all c.loop-p.p-index c.args.points.now (omega arith)) ∙ box_found c.args.points.now

@@ -1,13 +1,13 @@
 -- `points::joins::is_open` is `ring_open`. The invariant: what is left of the ring is open where the ring is.
 use Rattle.std.proofs.Common.{sym, ap, ◌∙◌, arith}
-use Rattle.std.proofs.lemmas.List.{drop_more, drop_all}
+use Rattle.std.proofs.lemmas.List.{drop_more, drop_all, nil_from_length}
 use Rattle.points.specs.Joins.{ring_open, every}
 use Rattle.points.proofs.Seams.{open_start, open_wide, open_shut, open_along, open_end, no_points_open}
 use Rattle.points.proofs.joins.is_open.Goals as goal
 use Rattle.points.proofs.joins.is_open.Goals.{then-left-eq0+else-is_wide, else-left-eq0}
 
 pub returns-in_default : goal.returns-in_default
-returns-in_default c = sym (no_points_open _ _ _ _ _ (drop_all 0 c.args.ring.now (omega (arith, c.in_default.ensures.cases))))
+returns-in_default c = sym (no_points_open _ _ _ _ _ (nil_from_length c.args.ring.now c.in_default.ensures.cases))
 
 pub loop-p-init : goal.loop-p-init
 loop-p-init c =

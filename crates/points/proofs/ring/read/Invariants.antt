@@ -1,9 +1,12 @@
-use Prim.Native.Nat.{◌+◌, ◌*◌, ◌-◌}
-use lib.ListN.{drop}
+use mathlib.Core.Path.{◌≡◌}
+use Prim.Native.Nat.{◌+◌, ◌*◌}
+use lib.ListN.{length}
 use Rattle.sheet.specs.Content.{ring_points}
-use Rattle.sheet.specs.Layout.{coedges}
+use Rattle.sheet.specs.Layout.{ring}
 use Rattle.points.proofs.InPlace.{Written}
 use Rattle.points.proofs.ring.read.Given as goal
 
 abbrev pub invariant-loop-k : goal.invariant-loop-k
-invariant-loop-k l = Written l.initial.points l.points (17 * l.k) (ring_points (coedges (l.count - l.k) (drop (1 + 280 * l.k) l.block))) (ring_points (coedges l.count (drop 1 l.block)))
+invariant-loop-k l =
+    (l.k-iterator.count + length l.k-iterator.iter ≡ l.count)
+    × Written l.initial.points l.points (17 * l.k-iterator.count) (ring_points l.k-iterator.iter) (ring_points (ring l.block))

@@ -1,18 +1,20 @@
--- `points::ring::read_coedge` writes the points of the coedge.
-use native.Mathlib.Nat.{add-zero}
-use native.Mathlib.Omega.{arith}
-use Rattle.points.proofs.InPlace.{none_written, item_written, all_filled}
-use Rattle.points.proofs.BlockPoints.{points_step, points_end}
+-- `points::ring::read_coedge` writes the points of the coedge, as the iterator gives them.
+use Rattle.std.proofs.Common.{◌≡◌, suc, length, ap, rules, arith}
+use Rattle.points.proofs.BlockPoints.{coedge_length}
+use Rattle.points.proofs.InPlace.{none_written, item_written}
 use Rattle.points.proofs.ring.read_coedge.Goals as goal
 
+pub loop-k-init-derived : goal.loop-k-init-derived
+loop-k-init-derived c = let l = coedge_length c.args.part.now in search rules
+
 pub loop-k-init : goal.loop-k-init
-loop-k-init c = rw add-zero (none_written _ _)
+loop-k-init c =
+    let items = c.enumerate-k-items.ensures in
+    rw (c.into_iter-k-iterator.ensures.into_iter_gives, items.source, items.count, c.points.ensures) (omega (arith, coedge_length c.args.part.now), none_written _ _)
 
 pub loop-k-preserved : goal.loop-k-preserved
 loop-k-preserved c =
-    let i = c.loop-k in
-    let a = c.args in
-    item_written i.invariant _ _ (rw (c.number-in-loop-k.ensures, c.number.ensures) (points_step a.block.now a.at 17 i.k (omega arith))) (omega arith)
-
-pub returns : goal.returns
-returns c = all_filled c.loop-k.invariant (points_end _ 17 c.loop-k.k (omega arith)) (omega arith)
+    let i = c.loop-k.invariant in
+    let next = c.in-Some.ensures.steps in
+    let one : length c.loop-k.k-iterator.iter ≡ suc (length c.next.new.self.iter) = ap length next.0 in
+    (omega arith, rw (next.1, next.2) (item_written i.1 c.in-Some.p c.next.new.self.iter next.0 (omega arith)))

@@ -1,8 +1,9 @@
-use Prim.Native.Nat.{◌+◌, ◌*◌, ◌-◌}
-use lib.ListN.{drop}
-use Rattle.sheet.specs.Layout.{points as points_of}
+use mathlib.Core.Path.{◌≡◌}
+use Prim.Native.Nat.{◌+◌}
+use lib.ListN.{length}
+use Rattle.sheet.specs.Layout.{coedge}
 use Rattle.points.proofs.InPlace.{Written}
 use Rattle.points.proofs.ring.read_coedge.Given as goal
 
 abbrev pub invariant-loop-k : goal.invariant-loop-k
-invariant-loop-k l = Written l.initial.points l.points l.k (points_of (17 - l.k) (drop (l.at + 16 * l.k) l.block)) (points_of 17 (drop l.at l.block))
+invariant-loop-k l = (l.k-iterator.count + length l.k-iterator.iter ≡ 17) × Written l.initial.points l.points l.k-iterator.count l.k-iterator.iter (coedge l.part).points

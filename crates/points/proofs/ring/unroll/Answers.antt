@@ -1,8 +1,8 @@
 -- `points::ring::unroll` moves every point. The invariant: of the moved points the first are written, and the last of
 -- them is `previous`.
-use Rattle.std.proofs.Common.{◌≡◌, [], refl, ap, map, arith}
+use Rattle.std.proofs.Common.{refl, ap, map, arith}
 use lib.Ieee.{nan}
-use Rattle.std.proofs.lemmas.List.{drop_all}
+use Rattle.std.proofs.lemmas.List.{drop_all, nil_from_length}
 use Rattle.sheet.specs.Content.{point}
 use Rattle.points.specs.Unroll.{wrapped, follow, unrolled, moved_ring}
 use Rattle.points.proofs.InPlace.{none_written, unwritten, item_written, all_filled}
@@ -10,7 +10,7 @@ use Rattle.points.proofs.ring.unroll.Goals as goal
 
 pub returns-in_default : goal.returns-in_default
 unfolding moved_ring unrolled
-returns-in_default c = let none : c.args.points.now ≡ [] = drop_all 0 c.args.points.now (omega (arith, c.in_default.ensures.cases)) in rw none refl
+returns-in_default c = rw (nil_from_length c.args.points.now c.in_default.ensures.cases) refl
 
 pub loop-p-init : goal.loop-p-init
 loop-p-init c = none_written _ _

@@ -1,35 +1,22 @@
--- `sheet::walk::blocks_fill` says whether the blocks fill the bytes from `from` on. The invariant: what is left of the
--- blocks fills the bytes from `at` on as all fill all.
--- A block that overruns the end ends the loop, another leaves the answer to the rest. The measure is how many are left.
-use mathlib.Core.Path.{sym, ◌∙◌}
-use native.Mathlib.Nat.{sub-zero}
-use native.Mathlib.Omega.{arith}
+-- `sheet::walk::blocks_fill` says whether the blocks fill the bytes. The invariant: the blocks that are left fill the
+-- bytes that are left as all fill all. A block that overruns the end ends the loop.
+use Rattle.std.proofs.Common.{◌≡◌, sym, ◌∙◌, arith, ap, ℕ, drop}
+use Rattle.std.proofs.lemmas.List.{take_rest}
+use Rattle.sheet.specs.Layout.{block_size}
 use Rattle.sheet.proofs.Walks.{fill_step, fill_short, fill_end}
-use borrow.Author.Rules.{rules}
 use Rattle.sheet.proofs.walk.blocks_fill.Goals as goal
 
-pub loop-k-init : goal.loop-k-init
-loop-k-init c = (c.requires, omega arith, simp sub-zero)
+pub returns-in-None : goal.returns-in-None
+returns-in-None c =
+    let overrun = c.in-None.ensures.lookup in
+    sym (fill_short c.loop.rest.now c.args.count c.loop.counter c.loop-test.true (omega arith)) ∙ c.loop.invariant
 
-pub overflow_sub-s : goal.overflow_sub-s
-overflow_sub-s c = search rules
-
-pub returns-then-s-at : goal.returns-then-s-at
-returns-then-s-at c =
-    let a = c.args in
-    let short = rw c.block_size-size.ensures at c.if-s-at.true in
-    sym (fill_short a.s.now c.loop-k.at a.count c.loop-k.k c.loop-k-test.true short) ∙ c.loop-k.invariant.2
-
-pub loop-k-preserved : goal.loop-k-preserved
-loop-k-preserved c =
-    let a = c.args in
-    let room = rw c.block_size-size.ensures at c.if-s-at.false in (
-      omega arith,
-      omega arith,
-      rw c.block_size-size.ensures (sym (fill_step a.s.now c.loop-k.at a.count c.loop-k.k c.loop-k-test.true room) ∙ c.loop-k.invariant.2),
-    )
+pub loop-preserved : goal.loop-preserved
+loop-preserved c =
+    let within = c.in-Some.ensures.lookup.0 in
+    let behind : c.in-Some.behind.now ≡ drop (block_size c.loop.rest.now) c.loop.rest.now =
+    within.2 ∙ take_rest c.loop.rest.now c.block_size.result ∙ ap (λ (n : ℕ). drop n c.loop.rest.now) c.block_size.ensures in
+    rw behind (sym (fill_step c.loop.rest.now c.args.count c.loop.counter c.loop-test.true (omega arith)) ∙ c.loop.invariant)
 
 pub returns : goal.returns
-returns c =
-    let a = c.args in
-    sym (fill_end a.s.now c.loop-k.at a.count c.loop-k.k c.loop-k-test.false c.loop-k.invariant.0) ∙ c.loop-k.invariant.2
+returns c = c.is_empty.ensures ∙ sym (fill_end c.loop.rest.now c.args.count c.loop.counter c.loop-test.false) ∙ c.loop.invariant

@@ -1,15 +1,15 @@
--- `sheet::walk::coedge_wrong` says whether check 7 fails on the coedge at the place: its deviation is tested first,
--- then the 34 numbers of its points.
-use lib.ListN.{drop}
-use lib.Seq.{drop-drop}
+-- `sheet::walk::coedge_wrong` says whether check 7 fails on a coedge: its deviation is tested first, then its points.
+use Rattle.std.proofs.Common.{rules}
+use Rattle.std.proofs.lemmas.Iterator.Consumers.{YieldsList-from_first}
+use Rattle.std.proofs.lemmas.Iterator.Search.{any_from_yields_List}
+use Rattle.sheet.specs.Checks.{point_wrong}
 use Rattle.sheet.proofs.Walks.{coedge_is}
 use Rattle.sheet.proofs.walk.coedge_wrong.Goals as goal
 
-pub returns-then-deviation-2 : goal.returns-then-deviation-2
-returns-then-deviation-2 c = rw (coedge_is (drop c.args.at c.args.block.now), ← c.number-deviation.ensures, c.if-deviation.true, c.if-deviation-2.true, drop-drop) c.any_beyond.ensures
+pub returns-then-not-is_deviation : goal.returns-then-not-is_deviation
+returns-then-not-is_deviation c = rw (coedge_is c.args.part.now, ← c.number.ensures, ← c.is_deviation.ensures, c.if-not-is_deviation.true)
 
-pub returns-else-deviation-2 : goal.returns-else-deviation-2
-returns-else-deviation-2 c = rw (coedge_is (drop c.args.at c.args.block.now), ← c.number-deviation.ensures, c.if-deviation.true, c.if-deviation-2.false)
-
-pub returns-else-deviation : goal.returns-else-deviation
-returns-else-deviation c = rw (coedge_is (drop c.args.at c.args.block.now), ← c.number-deviation.ensures, c.if-deviation.false)
+pub returns-else-not-is_deviation : goal.returns-else-not-is_deviation
+returns-else-not-is_deviation c =
+    rw (coedge_is c.args.part.now, ← c.number.ensures, ← c.is_deviation.ensures, c.if-not-is_deviation.false)
+    (any_from_yields_List point_wrong _ _ c.any.result c.any.ensures.ran (YieldsList-from_first (λ p. p) (λ rest. rest) _ c.points.ensures) (λ x b q k. search rules))
