@@ -85,7 +85,7 @@ candidate_perm f sense d =
 -- ---- what a sheet's joins and candidate are, in its frame
 
 abbrev opens_in : Frame → ℕ → ℕ → List Coedge → Bool
-opens_in f kind phase r = ring_open f.periodic f.scale_u f.scale_v (opens r) (moved_ring kind phase (ring_points r))
+opens_in f kind phase r = ring_open f.periodic f.scale.u f.scale.v (opens r) (moved_ring kind phase (ring_points r))
 
 joins_in : (s : Sheet) (phase : ℕ) → joins_open s phase ≡ any_of (opens_in (frame s phase) s.kind phase) s.rings
 unfolding joins_open
@@ -97,7 +97,7 @@ chosen_in s phase = refl
 
 normal_perm : (f : Frame) {rings rings' : List (List Point)} → Permᴰ rings rings' → Permᴰ (normalised_by f rings) (normalised_by f rings')
 unfolding normalised_by
-normal_perm f d = map_perm (map (normal f.least_u f.least_v f.scale_u f.scale_v)) d
+normal_perm f d = map_perm (map (normal f.least.u f.least.v f.scale.u f.scale.v)) d
 
 -- ---- a sheet
 

@@ -15,7 +15,7 @@ use Rattle.frame.proofs.Parting.{packed_ascends, rings_changed, length_changed}
 use Rattle.chart.specs.Chart.{normalised_by}
 
 abbrev change : Frame → Point → Point
-change f = normal_of f.least_u f.least_v f.scale_u f.scale_v
+change f = normal_of f.least.u f.least.v f.scale.u f.scale.v
 
 module _ (f : Frame) {ends : List ℕ} {xs normal : List Float} (before : List Float) (p : Packed ends xs) (same : length xs ≡ length before) (n : normal ≡ over (flat (map (change f) (pairs xs))) before) where
   normal_is : normal ≡ flat (map (change f) (pairs xs))

@@ -23,7 +23,7 @@ use Rattle.search.specs.declared.candidate.Candidate.{Candidate}
 
 unfoldable pub normalised_by : Frame → List (List Point) → List (List Point)
 unfolding normal
-normalised_by f rings = map (map (normal f.least_u f.least_v f.scale_u f.scale_v)) rings
+normalised_by f rings = map (map (normal f.least.u f.least.v f.scale.u f.scale.v)) rings
 
 unfoldable pub normalised : Sheet → ℕ → List (List Point)
 unfolding normalised_by frame moved_rings
@@ -54,8 +54,8 @@ unfoldable pub answered : Frame → ℕ → Candidate → Numbers
 unfolding add sub mul phase_angle
 answered f phase c = record {
   status = 0;
-  x = add binary64 f.least_u (mul binary64 c.u f.scale_u);
-  y = sub binary64 (add binary64 f.least_v (mul binary64 c.v f.scale_v)) (phase_angle phase);
+  x = add binary64 f.least.u (mul binary64 c.u f.scale.u);
+  y = sub binary64 (add binary64 f.least.v (mul binary64 c.v f.scale.v)) (phase_angle phase);
   z = plus_zero;
   clearance = c.clearance;
   count = c.count;

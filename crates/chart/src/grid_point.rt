@@ -38,12 +38,12 @@ pub fn find(s: &[u8], phase: u32, points: &mut [f64], ends: &mut [usize]) -> Res
 pub fn answered_u(f: Frame, best: Candidate) -> f64
     ensures { result ≡ (answered f 0 best).x }
 {
-    f.least_u + best.u * f.scale_u
+    f.least.u + best.u * f.scale.u
 }
 
 // v = least + p.v x scale - phase.
 pub fn answered_v(f: Frame, phase: u32, best: Candidate) -> f64
     ensures { result ≡ (answered f phase best).y }
 {
-    f.least_v + best.v * f.scale_v - points::phase_angle(phase)
+    f.least.v + best.v * f.scale.v - points::phase_angle(phase)
 }

@@ -1,17 +1,18 @@
--- How many points a sheet's rings have: seventeen a coedge, as many when they are moved, and two numbers each.
+-- How many points a sheet's rings have: seventeen a coedge, and as many when they are moved.
 use mathlib.Core.List.{List, [], ◌∷◌, map, flatten, foldl}
-use mathlib.Core.Path.{◌≡◌, refl, ap, ◌∙◌}
-use Prim.Native.Nat.{ℕ, zero, suc, ◌+◌, ◌*◌, ◌-◌, ◌≤◌, ◌<◌}
+use mathlib.Core.Path.{◌≡◌, refl, sym, ap, ◌∙◌}
+use Prim.Native.Nat.{ℕ, zero, suc, ◌+◌, ◌*◌, ◌^◌, ◌≤◌, ◌<◌}
 use native.Mathlib.Omega.{arith}
+use lib.Seq.{get_or-drop}
 use lib.ListN.{length, get_or, take, drop, length-append, length-map}
+use Rattle.std.specs.List.{sum_by}
+use Rattle.std.proofs.lemmas.List.Sums.{sum_by-cons}
 use Rattle.leaves.proofs.Folds.{All, sum_cons}
 use Rattle.sheet.specs.Checks.{coedge_total}
-use Rattle.sheet.specs.Content.{Coedge, Sheet, ring_points, flat}
+use Rattle.sheet.specs.Content.{Coedge, Sheet, ring_points}
 use Rattle.sheet.specs.Layout.{block_size, ring, cut, blocks, head_size, kind, ring_count, sheet_of}
 use Rattle.sheet.proofs.BlockOrder.{with_rings}
-use Rattle.sheet.proofs.Blocks.{ring_length, ring_points_length, first_byte}
-use Rattle.sheet.proofs.Walks.{cut_step, cut_end}
-use Rattle.points.proofs.Flat.{flat_append, length_flat}
+use Rattle.sheet.proofs.Blocks.{first_byte, cut_length, ring_length, ring_points_length}
 use Rattle.points.proofs.Moved.{length_moved}
 use Rattle.frame.specs.Framing.{point_count}
 use Rattle.frame.specs.Stages.{moved_block}
@@ -40,38 +41,56 @@ unfolding coedge_total
 points_by_coedges [] = refl
 points_by_coedges (b ∷ bs) = omega (arith, sum_cons (λ (r : List Coedge). length r) (ring b) (map ring bs), ring_length b, points_cons b bs, points_by_coedges bs)
 
--- the points from the block at a place on
-pub points_step : (s : List ℕ) (at n k : ℕ) → k < n → points_in (cut (n - k) (drop at s)) ≡ 17 * get_or (drop at s) 0 0 + points_in (cut (n - (k + 1)) (drop (at + block_size (drop at s)) s))
-points_step s at n k more =
-    let b = drop at s in
-    ap points_in (cut_step s at n k more) ∙ points_cons (take (block_size b) b) (cut (n - (k + 1)) (drop (at + block_size b) s)) ∙ ap (λ (m : ℕ). 17 * m + points_in (cut (n - (k + 1)) (drop (at + block_size b) s))) (first_byte b)
-
-pub points_end : (s : List ℕ) (n k : ℕ) → n ≤ k → points_in (cut (n - k) s) ≡ 0
-points_end s n k h = ap points_in (cut_end s n k h)
-
-pub count_of_blocks : (s : List ℕ) → point_count (sheet_of s) ≡ points_in (cut (ring_count s) (drop (head_size (kind s)) s))
-unfolding point_count sheet_of blocks
+pub count_of_blocks : (s : List ℕ) → point_count (sheet_of s) ≡ points_in (blocks s)
+unfolding point_count sheet_of
 count_of_blocks s = refl
 
--- ---- the numbers of the moved rings
+-- the sum over the blocks, of which there are few
+abbrev pub own_points : List ℕ → ℕ
+own_points b = 17 * get_or b 0 0
 
-pub moved_numbers : (kind phase : ℕ) (bs : List (List ℕ)) → length (flat (flatten (map (moved_block kind phase) bs))) ≡ 2 * points_in bs
-unfolding moved_block flatten flat
-moved_numbers kind phase [] = refl
-moved_numbers kind phase (b ∷ bs) =
-    rw (flat_append (moved_block kind phase b) (flatten (map (moved_block kind phase) bs)))
-    (simp (length-append, length_flat, length_moved) (omega (arith, ring_points_length b, points_cons b bs, moved_numbers kind phase bs, length_flat (flatten (map (moved_block kind phase) bs)))))
+sum_of_blocks : (bs : List (List ℕ)) → sum_by own_points bs ≡ points_in bs
+sum_of_blocks [] = refl
+sum_of_blocks (b ∷ bs) = sum_by-cons own_points b bs ∙ omega (arith, points_cons b bs, sum_of_blocks bs)
+
+pub points_of_blocks : (s : List ℕ) → sum_by own_points (blocks s) ≡ point_count (sheet_of s)
+points_of_blocks s = sum_of_blocks (blocks s) ∙ sym (count_of_blocks s)
+
+few_of_cut : (n : ℕ) (s : List ℕ) → ((i : ℕ) → get_or s i 0 < 256) → sum_by own_points (cut n s) ≤ 4335 * n
+unfolding cut
+few_of_cut zero s h = omega arith
+few_of_cut (suc n) s h =
+    let size = block_size s in
+    let behind : (i : ℕ) → get_or (drop size s) i 0 < 256 = λ i. rw (get_or-drop size s i 0) (h (size + i)) in
+    omega (arith, sum_by-cons own_points (take size s) (cut n (drop size s)), first_byte s, h 0, few_of_cut n (drop size s) behind)
+
+pub points_few : (s : List ℕ) → ((i : ℕ) → get_or s i 0 < 256) → sum_by own_points (blocks s) < 2 ^ 64
+unfolding blocks
+points_few s h =
+    let head = head_size (kind s) in
+    let behind : (i : ℕ) → get_or (drop head s) i 0 < 256 = λ i. rw (get_or-drop head s i 0) (h (head + i)) in
+    omega (arith, few_of_cut (ring_count s) (drop head s) behind, h 7)
+
+-- ---- the points of the moved rings
+
+pub moved_length : (kind phase : ℕ) (b : List ℕ) → length (moved_block kind phase b) ≡ 17 * get_or b 0 0
+unfolding moved_block
+moved_length kind phase b = length_moved kind phase (ring_points (ring b)) ∙ ring_points_length b
+
+pub moved_count : (kind phase : ℕ) (bs : List (List ℕ)) → length (flatten (map (moved_block kind phase) bs)) ≡ points_in bs
+unfolding flatten
+moved_count kind phase [] = refl
+moved_count kind phase (b ∷ bs) = simp length-append (omega (arith, moved_length kind phase b, points_cons b bs, moved_count kind phase bs))
 
 -- ---- as many rings as the sheet's ring count says
 
-cut_count : (n : ℕ) (s : List ℕ) → length (cut n s) ≡ n
-unfolding cut
-cut_count zero s = refl
-cut_count (suc n) s = ap suc (cut_count n (drop (block_size s) s))
+pub blocks_count : (s : List ℕ) → length (blocks s) ≡ length (sheet_of s).rings
+unfolding sheet_of
+blocks_count s = sym (length-map (blocks s) ring)
 
 pub ring_number : (s : List ℕ) → length (sheet_of s).rings ≡ ring_count s
-unfolding sheet_of blocks
-ring_number s = length-map (cut (ring_count s) (drop (head_size (kind s)) s)) ring ∙ cut_count (ring_count s) (drop (head_size (kind s)) s)
+unfolding blocks
+ring_number s = sym (blocks_count s) ∙ cut_length (ring_count s) (drop (head_size (kind s)) s)
 
 -- ---- rings with a coedge each have one
 

@@ -2,7 +2,7 @@
 -- check 6 the number of points. A moved point lies at most a stride further out than the one before it, so all of them
 -- lie within a whole number whose double the format still holds. There is a point, so the least and the greatest are
 -- coordinates and not infinities.
-use mathlib.Core.Path.{◌≡◌, ap, ◌∙◌}
+use mathlib.Core.Path.{◌≡◌}
 use mathlib.Core.Bool.{Bool, true, false}
 use mathlib.Core.List.{List, [], ◌∷◌, ◌++◌, map, flatten}
 use Prim.Native.Nat.{ℕ, ◌+◌, ◌*◌, ◌^◌, ◌≤◌}
@@ -18,17 +18,17 @@ use Rattle.leaves.proofs.Magnitudes.{most_finite, sub_most}
 use Rattle.leaves.proofs.Wraps.{tau_most}
 use Rattle.answers.specs.Outcome.{first}
 use Rattle.answers.proofs.Permutations.{all_flatten}
-use Rattle.sheet.specs.Checks.{most_coedges, ring_wrong, layout_checks, content_checks}
-use Rattle.sheet.specs.Content.{Point, Coedge, ring_points, flat}
+use Rattle.sheet.specs.Checks.{ring_wrong, layout_checks, content_checks}
+use Rattle.sheet.specs.Content.{Point, Coedge, ring_points}
 use Rattle.sheet.specs.Layout.{sheet_of}
 use Rattle.sheet.proofs.Checked.{coordinate_most, MostPoint, ring_most, checked}
 use Rattle.points.specs.Bounds.{least, greatest, axis_of}
 use Rattle.points.specs.Unroll.{moved_ring}
-use Rattle.points.proofs.Flat.{length_flat}
 use Rattle.points.proofs.Reach.{moved_ring_most, least_most, greatest_most}
 use Rattle.frame.specs.Frame.{band_of, periodic_of, spread, capped, boxed, framed, frame_of}
 use Rattle.frame.specs.Framing.{point_count, moved_rings, frame}
-use Rattle.frame.proofs.SheetFrame.{sheet_moved, numbers_count, points_least, points_most}
+use Rattle.frame.specs.Seam.{most_points}
+use Rattle.frame.proofs.SheetFrame.{moved_points, points_least, points_most}
 
 -- ---- the scales of points of which none is larger than n
 
@@ -44,17 +44,13 @@ capped_finite true scale h = smaller_keeps (λ (x : Float). T (finite x)) scale 
 capped_finite false scale h = h
 
 framed_finite : (kind n : ℕ) (rings : List (List Point)) → n + n ≤ 2 ^ prec binary64 → 1 ≤ length (flatten rings) → All (MostPoint n) (flatten rings)
-    → T (finite (frame_of kind rings).scale_u) × T (finite (frame_of kind rings).scale_v)
+    → T (finite (frame_of kind rings).scale.u) × T (finite (frame_of kind rings).scale.v)
 unfolding frame_of framed boxed
 framed_finite kind n rings fit some h =
     let ps = flatten rings in
     (capped_finite (periodic_of kind (band_of kind rings)) (spread 0 ps) (spread_finite n 0 ps fit some h), spread_finite n 1 ps fit some h)
 
 -- ---- the points of a sheet
-
--- seventeen a coedge
-abbrev most_points : ℕ
-most_points = 17 * most_coedges
 
 -- how much further out than the one before it a moved point can lie
 abbrev stride : ℕ
@@ -79,13 +75,10 @@ module _ (s : List ℕ) (phase : ℕ) (reads : first (layout_checks s ++ content
   moved_most = rings_most_lem (sheet_of s).kind phase (sheet_of s).rings (checked s reads).rings_right (sum_parts (λ (r : List Coedge). length (ring_points r)) most_points (sheet_of s).rings (omega (arith, points_most s reads)))
 
   some_point : 1 ≤ length (flatten (moved_rings (sheet_of s) phase))
-  some_point =
-      let rings = moved_rings (sheet_of s) phase in
-      let count : length (flat (flatten rings)) ≡ 2 * point_count (sheet_of s) = ap (λ (rs : List (List Point)). length (flat (flatten rs))) (sheet_moved s phase) ∙ numbers_count s phase in
-      omega (arith, count, length_flat (flatten rings), points_least s reads)
+  some_point = omega (arith, moved_points s phase, points_least s reads)
 
 pub scales_finite : (s : List ℕ) (phase : ℕ) → first (layout_checks s ++ content_checks (sheet_of s)) ≡ 0
-    → T (finite (frame (sheet_of s) phase).scale_u) × T (finite (frame (sheet_of s) phase).scale_v)
+    → T (finite (frame (sheet_of s) phase).scale.u) × T (finite (frame (sheet_of s) phase).scale.v)
 unfolding frame of_bits
 scales_finite s phase reads =
     let rings = moved_rings (sheet_of s) phase in

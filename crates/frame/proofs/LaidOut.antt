@@ -1,22 +1,22 @@
 -- The seam: lists of the sheet's size are laid out, and the frame stands where no check of 11 to 13 fails; and what a
 -- caller reads in its answer.
 use mathlib.Core.Path.{◌≡◌, refl, sym, ap, ◌∙◌}
-use mathlib.Core.Bool.{Bool, true, false, not, cond, ◌&&◌}
+use mathlib.Core.Bool.{Bool, true, false, not, cond}
 use mathlib.Core.List.{List, flatten}
-use Prim.Native.Nat.{ℕ, ◌*◌, ◌≤◌}
+use Prim.Native.Nat.{ℕ, ◌≤◌}
 use native.Mathlib.Omega.{arith}
 use borrow.Author.Tests.{eq-eqb, eqb-true, le-leb, leb-true}
 use lib.Dec.{eqb}
-use lib.Ieee.{Float}
 use lib.ListN.{length}
 use Rattle.std.specs.Prelude.{Result, Ok, Err}
+use Rattle.std.proofs.lemmas.Bool.{and_parts}
 use Rattle.answers.specs.Outcome.{check, first, number_of, numbered, settle}
 use Rattle.answers.specs.declared.refusal.Refusal.{Refusal}
 use Rattle.answers.specs.declared.refusal.Refusal.TheVariants.{Room}
 use Rattle.answers.proofs.Papers.{not_zero}
 use Rattle.answers.proofs.Settled.{settle_ok, settle_err, ok_told, err_told}
 use Rattle.answers.proofs.FirstCheck.{first_later}
-use Rattle.sheet.specs.Content.{Sheet, flat}
+use Rattle.sheet.specs.Content.{Point, Sheet}
 use Rattle.frame.specs.Framing.{moved_rings, frame, point_count, join_checks}
 use Rattle.frame.specs.Parts.{ends_from}
 use Rattle.frame.specs.Seam.{fitting, laid_points, laid_ends, seam_checks, framed_of}
@@ -24,33 +24,26 @@ use Rattle.frame.specs.declared.framing.Frame.{Frame}
 
 -- ---- lists of the sheet's size
 
-both : (a b : Bool) → (a && b) ≡ true → (a ≡ true) × (b ≡ true)
-both true b e = (refl, e)
-both false b e = absurd (true_is_not e)
-  where
-    true_is_not : ◌≡◌ {A = Bool} false true → ⊥
-    true_is_not h = let z : ◌≡◌ {A = ℕ} 0 1 = cc in omega arith
-
-pub record Fitting (s : Sheet) (numbers ends : ℕ) : Type 0 where
-  pub points_are : numbers ≡ 2 * point_count s
+pub record Fitting (s : Sheet) (points ends : ℕ) : Type 0 where
+  pub points_are : points ≡ point_count s
   pub ends_are : ends ≡ length s.rings
-  pub most : numbers ≤ 4352
+  pub most : points ≤ 2176
 
-pub fitting_is : (s : Sheet) (numbers ends : ℕ) → fitting s numbers ends ≡ true → Fitting s numbers ends
+pub fitting_is : (s : Sheet) (points ends : ℕ) → fitting s points ends ≡ true → Fitting s points ends
 unfolding fitting
-fitting_is s numbers ends e =
-    let p = both (eqb numbers (2 * point_count s)) _ e in
-    let q = both (eqb ends (length s.rings)) _ p.1 in
-    record { points_are = eqb-true numbers (2 * point_count s) p.0; ends_are = eqb-true ends (length s.rings) q.0; most = leb-true numbers 4352 q.1 }
+fitting_is s points ends e =
+    let p = and_parts (eqb points (point_count s)) _ e in
+    let q = and_parts (eqb ends (length s.rings)) _ p.1 in
+    record { points_are = eqb-true points (point_count s) p.0; ends_are = eqb-true ends (length s.rings) q.0; most = leb-true points 2176 q.1 }
 
-pub is_fitting : (s : Sheet) (numbers ends : ℕ) → numbers ≡ 2 * point_count s → ends ≡ length s.rings → numbers ≤ 4352 → fitting s numbers ends ≡ true
+pub is_fitting : (s : Sheet) (points ends : ℕ) → points ≡ point_count s → ends ≡ length s.rings → points ≤ 2176 → fitting s points ends ≡ true
 unfolding fitting
-is_fitting s numbers ends p q m = rw (eq-eqb numbers (2 * point_count s) p, eq-eqb ends (length s.rings) q, le-leb numbers 4352 m)
+is_fitting s points ends p q m = rw (eq-eqb points (point_count s) p, eq-eqb ends (length s.rings) q, le-leb points 2176 m)
 
 -- ---- the answer
 
 module _ (s : Sheet) (phase : ℕ) where
-  pub laid_points_lem : {fits : Bool} (points : List Float) → fits ≡ true → laid_points fits s phase points ≡ flat (flatten (moved_rings s phase))
+  pub laid_points_lem : {fits : Bool} (points : List Point) → fits ≡ true → laid_points fits s phase points ≡ flatten (moved_rings s phase)
   unfolding laid_points
   laid_points_lem {fits} points e = rw e
 
@@ -59,7 +52,7 @@ module _ (s : Sheet) (phase : ℕ) where
   laid_ends_lem {fits} ends e = rw e
 
   -- lists of another size: 9, and they stay
-  pub unlaid : {fits : Bool} {points : List Float} {ends : List ℕ} → fits ≡ false → (numbered (Err Room) ≡ framed_of fits s phase) × (points ≡ laid_points fits s phase points) × (ends ≡ laid_ends fits s phase ends)
+  pub unlaid : {fits : Bool} {points : List Point} {ends : List ℕ} → fits ≡ false → (numbered (Err Room) ≡ framed_of fits s phase) × (points ≡ laid_points fits s phase points) × (ends ≡ laid_ends fits s phase ends)
   unfolding framed_of settle first seam_checks laid_points laid_ends numbered number_of
   unlaid {fits} {points} {ends} e = (rw e, rw e, rw e)
 

@@ -1,8 +1,7 @@
 -- Laws about the definitions of `frame`, by subject.
 
--- rings that stand one behind the other in one list of numbers
+-- rings that stand one behind the other in one list of points
 pub mod Parting
-pub mod Rings
 -- how many points there are
 pub mod Counting
 -- rules 1 and 2 on every ring

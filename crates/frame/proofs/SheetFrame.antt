@@ -1,14 +1,14 @@
 -- A sheet's moved rings, frame and joins by its blocks, as the code comes by them: every coedge has seventeen points,
 -- so which points are their coedge's first is told by counting.
 use mathlib.Core.List.{List, [], ◌∷◌, ◌++◌, map, flatten}
-use mathlib.Core.Path.{◌≡◌, refl, sym, ap, ap₂, ◌∙◌}
-use Prim.Native.Nat.{ℕ, ◌*◌, ◌≤◌}
+use mathlib.Core.Path.{◌≡◌, refl, sym, ap, ◌∙◌}
+use Prim.Native.Nat.{ℕ, ◌≤◌}
 use native.Mathlib.Omega.{arith}
-use lib.ListN.{length, drop}
+use lib.ListN.{length}
 use Rattle.answers.specs.Outcome.{first}
 use Rattle.sheet.specs.Checks.{layout_checks, content_checks}
-use Rattle.sheet.specs.Content.{Point, Coedge, ring_points, flat}
-use Rattle.sheet.specs.Layout.{kind, ring_count, head_size, ring, cut, blocks, sheet_of}
+use Rattle.sheet.specs.Content.{Point, Coedge, ring_points}
+use Rattle.sheet.specs.Layout.{kind, ring, blocks, sheet_of}
 use Rattle.sheet.proofs.Blocks.{coedge_points}
 use Rattle.sheet.proofs.Checked.{checked}
 use Rattle.points.specs.Joins.{opens}
@@ -17,9 +17,9 @@ use Rattle.points.proofs.Moved.{length_moved}
 use Rattle.points.proofs.Opening.{opening}
 use Rattle.frame.specs.Frame.{frame_of}
 use Rattle.frame.specs.Framing.{moved_rings, frame, any_open, joins_open, point_count, join_rows, join_checks}
-use Rattle.frame.specs.Stages.{moved_block, moved_blocks, open_every}
+use Rattle.frame.specs.Stages.{moved_block, open_every}
 use Rattle.frame.specs.declared.framing.Frame.{Frame}
-use Rattle.frame.proofs.Counting.{points_by_coedges, count_of_blocks, moved_numbers, ring_number, some_coedge}
+use Rattle.frame.proofs.Counting.{points_by_coedges, count_of_blocks, moved_count, ring_number, some_coedge}
 
 -- ---- the moved rings
 
@@ -28,9 +28,9 @@ unfolding moved_block
 blocks_moved kind phase [] = refl
 blocks_moved kind phase (b ∷ bs) = ap (λ (rs : List (List Point)). moved_ring kind phase (ring_points (ring b)) ∷ rs) (blocks_moved kind phase bs)
 
-pub sheet_moved : (s : List ℕ) (phase : ℕ) → moved_rings (sheet_of s) phase ≡ moved_blocks (kind s) phase (ring_count s) (drop (head_size (kind s)) s)
-unfolding moved_rings sheet_of moved_blocks blocks
-sheet_moved s phase = blocks_moved (kind s) phase (cut (ring_count s) (drop (head_size (kind s)) s))
+pub sheet_moved : (s : List ℕ) (phase : ℕ) → moved_rings (sheet_of s) phase ≡ map (moved_block (kind s) phase) (blocks s)
+unfolding moved_rings sheet_of
+sheet_moved s phase = blocks_moved (kind s) phase (blocks s)
 
 -- every coedge has seventeen points, so which points are their coedge's first is told by counting
 rings_open : (f : Frame) (kind phase : ℕ) (bs : List (List ℕ))
@@ -43,36 +43,32 @@ rings_open f kind phase (b ∷ bs) =
 
 module _ (s : List ℕ) (phase : ℕ) where
   abbrev rings : List (List Point)
-  rings = moved_blocks (kind s) phase (ring_count s) (drop (head_size (kind s)) s)
+  rings = moved_rings (sheet_of s) phase
 
   pub sheet_frame : frame (sheet_of s) phase ≡ frame_of (kind s) rings
   unfolding frame sheet_of
-  sheet_frame = ap (frame_of (kind s)) (sheet_moved s phase)
+  sheet_frame = refl
 
-  pub sheet_open : joins_open (sheet_of s) phase ≡ open_every (frame_of (kind s) rings) rings
-  unfolding joins_open sheet_of blocks moved_blocks
-  sheet_open =
-      ap (λ (f : Frame). any_open f opens (λ (r : List Coedge). moved_ring (kind s) phase (ring_points r)) (sheet_of s).rings) sheet_frame
-      ∙ rings_open (frame_of (kind s) rings) (kind s) phase (cut (ring_count s) (drop (head_size (kind s)) s))
+  pub sheet_open : joins_open (sheet_of s) phase ≡ open_every (frame (sheet_of s) phase) rings
+  unfolding joins_open sheet_of
+  sheet_open = rings_open (frame (sheet_of s) phase) (kind s) phase (blocks s) ∙ ap (open_every (frame (sheet_of s) phase)) (sym (sheet_moved s phase))
 
   -- checks 11 to 13 are the rows of the frame
-  pub sheet_rows : join_checks (sheet_of s) phase ≡ join_rows (frame_of (kind s) rings) (open_every (frame_of (kind s) rings) rings)
+  pub sheet_rows : join_checks (sheet_of s) phase ≡ join_rows (frame (sheet_of s) phase) (open_every (frame (sheet_of s) phase) rings)
   unfolding join_checks
-  sheet_rows = ap₂ join_rows sheet_frame sheet_open
+  sheet_rows = ap (join_rows (frame (sheet_of s) phase)) sheet_open
 
-  pub numbers_count : length (flat (flatten rings)) ≡ 2 * point_count (sheet_of s)
-  unfolding moved_blocks
-  numbers_count = moved_numbers (kind s) phase (cut (ring_count s) (drop (head_size (kind s)) s)) ∙ ap (λ (n : ℕ). 2 * n) (sym (count_of_blocks s))
+  pub moved_points : length (flatten rings) ≡ point_count (sheet_of s)
+  moved_points = ap (λ (rs : List (List Point)). length (flatten rs)) (sheet_moved s phase) ∙ moved_count (kind s) phase (blocks s) ∙ sym (count_of_blocks s)
 
 -- ---- a sheet that reads has a point, and no more points than the largest
 
-pub points_most : (s : List ℕ) → first (layout_checks s ++ content_checks (sheet_of s)) ≡ 0 → 2 * point_count (sheet_of s) ≤ 4352
-unfolding sheet_of blocks
-points_most s reads = omega (arith, count_of_blocks s, points_by_coedges (cut (ring_count s) (drop (head_size (kind s)) s)), (checked s reads).coedges_most)
+pub points_most : (s : List ℕ) → first (layout_checks s ++ content_checks (sheet_of s)) ≡ 0 → point_count (sheet_of s) ≤ 2176
+unfolding sheet_of
+points_most s reads = omega (arith, count_of_blocks s, points_by_coedges (blocks s), (checked s reads).coedges_most)
 
 pub points_least : (s : List ℕ) → first (layout_checks s ++ content_checks (sheet_of s)) ≡ 0 → 1 ≤ point_count (sheet_of s)
-unfolding sheet_of blocks
+unfolding sheet_of
 points_least s reads =
     let c = checked s reads in
-    let rings = map ring (cut (ring_count s) (drop (head_size (kind s)) s)) in
-    omega (arith, count_of_blocks s, points_by_coedges (cut (ring_count s) (drop (head_size (kind s)) s)), some_coedge rings (omega (arith, ring_number s, c.layout.rings_least)) c.rings_full)
+    omega (arith, count_of_blocks s, points_by_coedges (blocks s), some_coedge (map ring (blocks s)) (omega (arith, ring_number s, c.layout.rings_least)) c.rings_full)

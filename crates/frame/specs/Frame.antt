@@ -1,15 +1,14 @@
 -- Document 01, "Chart", rule 3: "Box: least and greatest u and v over all rings; scale = greatest − least. Torus band:
 -- kind 4 with a ring whose first and last u differ by over PI. Periodic: kinds 1, 2, or band. Check 11; then periodic
 -- caps the u scale at TAU; check 12", and rule 5's "Period P = TAU / u scale".
--- A Frame is the code's struct (src/framing.rt): the box's least_u and least_v; scale_u, capped, and scale_v; the
--- period P; periodic, whether the chart is; and band, whether it is a torus band.
+-- A Frame is the code's struct (src/framing.rt): the box's least u and v; the scales, that of u capped; the period P; periodic, whether the chart is; and band, whether it is a torus band.
 use Rattle.std.specs.Prelude.{Bool, cond, ◌&&◌, ◌||◌, ℕ, eqb, Float}
 use mathlib.Core.List.{List, map, flatten}
 use Rattle.std.specs.Float.{binary64}
 use Rattle.std.specs.Float.Ieee.{sub, div, le}
 use Rattle.leaves.specs.Bounds.{smaller_of}
 use Rattle.leaves.specs.Constants.{pi, tau, scale_limit}
-use Rattle.sheet.specs.Content.{Point}
+use Rattle.sheet.specs.Content.{Point, point}
 use Rattle.answers.specs.Lists.{any_of}
 use Rattle.points.specs.Bounds.{least, greatest, axis_of, goes_around}
 use Rattle.frame.specs.declared.framing.Frame.{Frame}
@@ -33,10 +32,8 @@ capped periodic scale = cond periodic (smaller_of scale tau) scale
 unfoldable pub boxed : Bool → Bool → Float → Float → Float → Float → Frame
 unfolding capped div
 boxed periodic band least_u least_v scale_u scale_v = record {
-  least_u = least_u;
-  least_v = least_v;
-  scale_u = capped periodic scale_u;
-  scale_v = scale_v;
+  least = point least_u least_v;
+  scale = point (capped periodic scale_u) scale_v;
   period = div binary64 tau (capped periodic scale_u);
   periodic = periodic;
   band = band;
@@ -54,9 +51,9 @@ frame_of kind rings = framed (periodic_of kind (band_of kind rings)) (band_of ki
 -- ---- 11: "torus band with v scale ≥ PI"
 unfoldable pub band_wide : Frame → Bool
 unfolding le
-band_wide f = f.band && le pi f.scale_v
+band_wide f = f.band && le pi f.scale.v
 
 -- ---- 12: "u or v scale ≤ 1e-12"
 unfoldable pub narrow : Frame → Bool
 unfolding le
-narrow f = le f.scale_u scale_limit || le f.scale_v scale_limit
+narrow f = le f.scale.u scale_limit || le f.scale.v scale_limit

@@ -23,7 +23,7 @@ point_count s = foldl (λ (n : ℕ) (r : List Coedge). n + length (ring_points r
 -- it is its coedge's first
 unfoldable pub any_open : {A : Type 0} → Frame → (A → List Bool) → (A → List Point) → List A → Bool
 unfolding ring_open
-any_open {A} f opens points rings = any_of (λ (r : A). ring_open f.periodic f.scale_u f.scale_v (opens r) (points r)) rings
+any_open {A} f opens points rings = any_of (λ (r : A). ring_open f.periodic f.scale.u f.scale.v (opens r) (points r)) rings
 
 -- ---- the table's rows 11 to 13, in a frame
 unfoldable pub join_rows : Frame → Bool → List Check

@@ -2,11 +2,11 @@
 -- that the caller lends, with the frame, or the first of 11 to 13 that fails.
 -- Each call puts its own 9 or 10 between the two. Both have a value for every list of bytes, and lists of another size
 -- than the sheet's are refused with 9.
-use Rattle.std.specs.Prelude.{Bool, not, cond, ◌&&◌, ℕ, ◌*◌, eqb, leb, Float, length, Result}
+use Rattle.std.specs.Prelude.{Bool, not, cond, ◌&&◌, ℕ, eqb, leb, length, Result}
 use mathlib.Core.List.{List, [], ◌∷◌, ◌++◌, flatten}
 use Rattle.answers.specs.Outcome.{Check, check, first, settle}
 use Rattle.sheet.specs.Checks.{layout_checks, content_checks}
-use Rattle.sheet.specs.Content.{Sheet, flat}
+use Rattle.sheet.specs.Content.{Point, Sheet}
 use Rattle.sheet.specs.Layout.{sheet_of}
 use Rattle.frame.specs.Framing.{moved_rings, frame, point_count, phase_wrong, join_checks}
 use Rattle.frame.specs.Parts.{ends_from}
@@ -20,20 +20,20 @@ phase_checks s phase = layout_checks s ++ content_checks (sheet_of s) ++ check 8
 
 -- ---- lists for the moved points and for the rings' ends
 
--- the numbers of the largest accepted sheet's points: 128 coedges of 17 points of two
-abbrev pub most_numbers : ℕ
-most_numbers = 4352
+-- the points of the largest accepted sheet: 128 coedges of 17
+abbrev pub most_points : ℕ
+most_points = 2176
 
--- whether lists of so many numbers and so many ends are just the sheet's, and no longer than the largest accepted
+-- whether lists of so many points and so many ends are just the sheet's, and no longer than the largest accepted
 -- sheet's
 unfoldable pub fitting : Sheet → ℕ → ℕ → Bool
 unfolding point_count
-fitting s numbers ends = eqb numbers (2 * point_count s) && (eqb ends (length s.rings) && leb numbers most_numbers)
+fitting s points ends = eqb points (point_count s) && (eqb ends (length s.rings) && leb points most_points)
 
 -- the points of the moved rings, one ring behind the other, and where each ring's end; lists of another size stay
-unfoldable pub laid_points : Bool → Sheet → ℕ → List Float → List Float
-unfolding flat flatten moved_rings
-laid_points fits s phase points = cond fits (flat (flatten (moved_rings s phase))) points
+unfoldable pub laid_points : Bool → Sheet → ℕ → List Point → List Point
+unfolding flatten moved_rings
+laid_points fits s phase points = cond fits (flatten (moved_rings s phase)) points
 
 unfoldable pub laid_ends : Bool → Sheet → ℕ → List ℕ → List ℕ
 unfolding ends_from moved_rings

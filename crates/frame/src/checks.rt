@@ -1,5 +1,5 @@
-// Checks 1 to 8, and how many numbers the points are.
-ghost use Rattle.std.specs.Prelude.{◌≡◌, ◌*◌};
+// Checks 1 to 8, and how many points there are.
+ghost use Rattle.std.specs.Prelude.{◌≡◌};
 ghost use Rattle.answers.specs.Outcome.{first, status_of};
 ghost use Rattle.sheet.specs.Layout.{sheet_of};
 ghost use Rattle.frame.specs.Framing.{phase_wrong, point_count};
@@ -8,16 +8,11 @@ ghost use Rattle.frame.specs.Seam.{phase_checks};
 use answers::Refusal;
 
 // 8: a phase that is neither 0 nor 1, or 1 off a torus.
+#[tactic(auto, unfolding(crate::specs::Framing::phase_wrong, sheet::specs::Layout::sheet_of))]
 fn phase_wrong(s: &[u8], phase: u32) -> bool
     ensures { result ≡ phase_wrong (sheet_of s.now) phase }
 {
-    if 1 < phase {
-        true
-    } else if phase == 1 {
-        sheet::byte_at(s, 5) != 4
-    } else {
-        false
-    }
+    1 < phase || phase == 1 && sheet::byte_at(s, 5) != 4
 }
 
 // The first check of 1 to 8 that fails.
@@ -31,18 +26,11 @@ pub fn check(s: &[u8], phase: u32) -> Result<(), Refusal>
     Ok(())
 }
 
-// How many f64 the points of all rings are.
-pub fn point_numbers(s: &[u8]) -> usize
-    ensures { result ≡ 2 * point_count (sheet_of s.now) }
+// How many points the rings have.
+pub fn point_count(s: &[u8]) -> usize
+    ensures { result ≡ point_count (sheet_of s.now) }
 {
-    let mut at = sheet::head_size(sheet::byte_at(s, 5));
-    let count = sheet::byte_at(s, 7);
-    let mut total = 0usize;
-    let mut k: u8 = 0;
-    while k < count {
-        total += sheet::COEDGE_NUMBERS * (sheet::byte_at(s, at) as usize);
-        at += sheet::block_size(s, at);
-        k += 1;
-    }
-    total
+    sheet::ring_blocks(s)
+        .map(|block| sheet::COEDGE_POINTS * sheet::byte_at(block, 0) as usize)
+        .sum()
 }

@@ -1,74 +1,44 @@
 // Rule 3: the box of all rings, band and periodic, and the checks 11 to 13.
-ghost use Rattle.std.specs.Prelude.{◌≡◌, length};
-ghost use Rattle.sheet.specs.Content.{pairs};
-ghost use Rattle.answers.specs.Lists.{any_of};
-ghost use Rattle.points.specs.Bounds.{goes_around};
-ghost use Rattle.frame.specs.Frame.{band_of, periodic_of, capped as capped_at, framed, band_wide, narrow as narrow_in};
-ghost use Rattle.frame.specs.Parts.{rings_from, Ascends};
+ghost use Rattle.std.specs.Prelude.{◌≡◌};
 ghost use Rattle.answers.specs.Outcome.{first, status_of};
+ghost use Rattle.frame.specs.Frame.{band_of, periodic_of, capped as capped_at, framed, band_wide, narrow as narrow_in};
 ghost use Rattle.frame.specs.Framing.{join_rows};
+ghost use Rattle.frame.specs.Parts.{rings_in};
 ghost use Rattle.frame.specs.Stages.{open_every};
 
+use crate::ring_list::Rings;
 use answers::Refusal;
 use leaves::constants::{PI, SCALE_LIMIT, TAU};
+use sheet::Point;
 
 // What rules 4 to 9 ask of a sheet beside its points: the box's least u and v, the scales, P, and
 // whether the chart is periodic and a torus band.
 #[derive(Clone, Copy)]
 pub struct Frame {
-    pub least_u: f64,
-    pub least_v: f64,
-    pub scale_u: f64,
-    pub scale_v: f64,
+    pub least: Point,
+    pub scale: Point,
     pub period: f64,
     pub periodic: bool,
     pub band: bool,
 }
 
-// Whether a ring goes around.
-fn any_goes_around(points: &[f64], ends: &[usize]) -> bool
-    requires { Ascends 0 ends.now (length points.now) }
-    ensures { result ≡ any_of goes_around (rings_from 0 ends.now points.now) }
-{
-    let mut from = 0usize;
-    let mut k = 0;
-    while k < ends.len() {
-        let to = ends[k];
-        if points::goes_around(&points[from..to]) {
-            return true;
-        }
-        from = to;
-        k += 1;
-    }
-    false
-}
-
 // A torus band: kind 4 with a ring that goes around.
-fn is_band(kind: u8, points: &[f64], ends: &[usize]) -> bool
-    requires { Ascends 0 ends.now (length points.now) }
-    ensures { result ≡ band_of kind (rings_from 0 ends.now points.now) }
+fn is_band(kind: u8, rings: Rings) -> bool
+    ensures { result ≡ band_of kind (rings_in rings.entry) }
 {
-    if kind == 4 {
-        any_goes_around(points, ends)
-    } else {
-        false
-    }
+    kind == 4 && rings.into_iter().any(|ring| points::goes_around(ring))
 }
 
 // Kinds 1, 2, or a band.
+#[tactic(auto, unfolding(crate::specs::Frame::periodic_of))]
 fn is_periodic(kind: u8, band: bool) -> bool
     ensures { result ≡ periodic_of kind band }
 {
-    if kind == 1 {
-        true
-    } else if kind == 2 {
-        true
-    } else {
-        band
-    }
+    kind == 1 || kind == 2 || band
 }
 
 // Periodic caps the u scale at TAU.
+#[tactic(auto, unfolding(crate::specs::Frame::capped))]
 fn capped(periodic: bool, scale: f64) -> f64
     ensures { result ≡ capped_at periodic scale }
 {
@@ -80,84 +50,61 @@ fn capped(periodic: bool, scale: f64) -> f64
 }
 
 // The frame of the points of all rings together.
-fn framed_by(periodic: bool, band: bool, points: &[f64]) -> Frame
-    ensures { result ≡ framed periodic band (pairs points.now) }
+#[tactic(auto, unfolding(crate::specs::Frame::framed, crate::specs::Frame::boxed, crate::specs::Frame::spread, points::specs::Bounds::box_of))]
+fn framed_by(periodic: bool, band: bool, points: &[Point]) -> Frame
+    ensures { result ≡ framed periodic band points.now }
 {
     let b = points::box_of(points);
-    let scale_u = capped(periodic, b.greatest_u - b.least_u);
+    let scale_u = capped(periodic, b.greatest.u - b.least.u);
     Frame {
-        least_u: b.least_u,
-        least_v: b.least_v,
-        scale_u: scale_u,
-        scale_v: b.greatest_v - b.least_v,
+        least: b.least,
+        scale: Point {
+            u: scale_u,
+            v: b.greatest.v - b.least.v,
+        },
         period: TAU / scale_u,
-        periodic: periodic,
-        band: band,
+        periodic,
+        band,
     }
 }
 
-// The frame of the rings that stand in `points`, one behind the other.
-pub(crate) fn frame_of(kind: u8, points: &[f64], ends: &[usize]) -> Frame
-    requires { Ascends 0 ends.now (length points.now) }
-    ensures { result ≡ framed (periodic_of kind (band_of kind (rings_from 0 ends.now points.now))) (band_of kind (rings_from 0 ends.now points.now)) (pairs points.now) }
+// The frame of rings.
+pub(crate) fn frame_of(kind: u8, rings: Rings) -> Frame
+    ensures { let band = band_of kind (rings_in rings.entry) in result ≡ framed (periodic_of kind band) band rings.entry.points.now }
 {
-    let band = is_band(kind, points, ends);
-    framed_by(is_periodic(kind, band), band, points)
+    let band = is_band(kind, rings);
+    framed_by(is_periodic(kind, band), band, rings.points)
 }
 
 // 11: a torus band with v scale PI or more.
+#[tactic(auto, unfolding(crate::specs::Frame::band_wide))]
 fn band_wide(frame: Frame) -> bool
     ensures { result ≡ band_wide frame }
 {
-    if frame.band {
-        PI <= frame.scale_v
-    } else {
-        false
-    }
+    frame.band && PI <= frame.scale.v
 }
 
 // 12: u or v scale at most 1e-12.
+#[tactic(auto, using(leaves::proofs::ConstantBits::scale_limit_bits), unfolding(crate::specs::Frame::narrow))]
 fn narrow(frame: Frame) -> bool
     ensures { result ≡ narrow_in frame }
 {
-    if frame.scale_u <= SCALE_LIMIT {
-        true
-    } else {
-        frame.scale_v <= SCALE_LIMIT
-    }
+    frame.scale.u <= SCALE_LIMIT || frame.scale.v <= SCALE_LIMIT
 }
 
 // 13: a join above 1e-4.
-fn joins_open(frame: Frame, points: &[f64], ends: &[usize]) -> bool
-    requires { Ascends 0 ends.now (length points.now) }
-    ensures { result ≡ open_every frame (rings_from 0 ends.now points.now) }
+fn joins_open(frame: Frame, rings: Rings) -> bool
+    ensures { result ≡ open_every frame (rings_in rings.entry) }
 {
-    let periodic = frame.periodic;
-    let scale_u = frame.scale_u;
-    let scale_v = frame.scale_v;
-    let mut from = 0usize;
-    let mut k = 0;
-    while k < ends.len() {
-        let to = ends[k];
-        if points::is_open(
-            periodic,
-            scale_u,
-            scale_v,
-            sheet::COEDGE_POINTS - 1,
-            &points[from..to],
-        ) {
-            return true;
-        }
-        from = to;
-        k += 1;
-    }
-    false
+    rings.into_iter().any(|ring| {
+        points::is_open(frame.periodic, frame.scale, sheet::COEDGE_POINTS - 1, ring)
+    })
 }
 
 // Checks 11 to 13 in a frame: the first that fails.
-pub(crate) fn check_joins(frame: Frame, points: &[f64], ends: &[usize]) -> Result<(), Refusal>
-    requires { Ascends 0 ends.now (length points.now) }
-    ensures { status_of result ≡ first (join_rows frame (open_every frame (rings_from 0 ends.now points.now))) }
+#[tactic(auto, unfolding(crate::specs::Framing::join_rows, answers::specs::Outcome::first, answers::specs::Outcome::status_of, answers::specs::Outcome::number_of))]
+pub(crate) fn check_joins(frame: Frame, rings: Rings) -> Result<(), Refusal>
+    ensures { status_of result ≡ first (join_rows frame (open_every frame (rings_in rings.entry))) }
 {
     if band_wide(frame) {
         return Err(Refusal::WideBand);
@@ -165,7 +112,7 @@ pub(crate) fn check_joins(frame: Frame, points: &[f64], ends: &[usize]) -> Resul
     if narrow(frame) {
         return Err(Refusal::Narrow);
     }
-    if joins_open(frame, points, ends) {
+    if joins_open(frame, rings) {
         return Err(Refusal::OpenJoin);
     }
     Ok(())

@@ -5,8 +5,10 @@
 mod checks;
 mod framing;
 mod prepare;
+mod ring_list;
 mod seam;
 
-pub use checks::{check, point_numbers};
+pub use checks::{check, point_count};
 pub use framing::Frame;
+pub use ring_list::{Rings, RingsLeft};
 pub use seam::lay_out;

@@ -4,22 +4,21 @@ ghost use Rattle.answers.specs.Outcome.{numbered};
 ghost use Rattle.sheet.specs.Layout.{sheet_of};
 ghost use Rattle.frame.specs.Seam.{fitting, laid_points, laid_ends, framed_of};
 
-use crate::checks::point_numbers;
+use crate::checks::point_count;
 use crate::framing::{Frame, check_joins, frame_of};
 use crate::prepare::prepare;
+use crate::ring_list::Rings;
 use answers::Refusal;
+use sheet::Point;
 
-// Whether lists of so many numbers and so many ends are just those of the sheet.
-fn is_fitting(s: &[u8], numbers: usize, ends: usize) -> bool
-    ensures { result ≡ fitting (sheet_of s.now) numbers ends }
+// Whether lists of so many points and so many ends are just those of the sheet.
+#[tactic(auto, using(crate::proofs::Counting::ring_number), unfolding(crate::specs::Seam::fitting))]
+fn is_fitting(s: &[u8], points: usize, ends: usize) -> bool
+    ensures { result ≡ fitting (sheet_of s.now) points ends }
 {
-    if numbers != point_numbers(s) {
-        return false;
-    }
-    if ends != sheet::byte_at(s, 7) as usize {
-        return false;
-    }
-    numbers <= sheet::MOST_NUMBERS
+    points == point_count(s)
+        && ends == sheet::byte_at(s, 7) as usize
+        && points <= sheet::MOST_POINTS
 }
 
 // Lays the moved points of all rings, one ring behind the other, into `points`, and where each ring's end into
@@ -28,7 +27,7 @@ fn is_fitting(s: &[u8], numbers: usize, ends: usize) -> bool
 pub fn lay_out(
     s: &[u8],
     phase: u32,
-    points: &mut [f64],
+    points: &mut [Point],
     ends: &mut [usize],
 ) -> Result<Frame, Refusal>
     ensures { (numbered result ≡ framed_of (fitting (sheet_of s.now) (length points.old) (length ends.old)) (sheet_of s.now) phase) × (points.new ≡ laid_points (fitting (sheet_of s.now) (length points.old) (length ends.old)) (sheet_of s.now) phase points.old) × (ends.new ≡ laid_ends (fitting (sheet_of s.now) (length points.old) (length ends.old)) (sheet_of s.now) phase ends.old) }
@@ -36,9 +35,9 @@ pub fn lay_out(
     if !is_fitting(s, points.len(), ends.len()) {
         return Err(Refusal::Room);
     }
-    let kind = sheet::byte_at(s, 5);
-    prepare(kind, phase, s, sheet::head_size(kind), points, ends);
-    let frame = frame_of(kind, points, ends);
-    check_joins(frame, points, ends)?;
+    prepare(s, phase, points, ends);
+    let rings = Rings { points, ends };
+    let frame = frame_of(sheet::byte_at(s, 5), rings);
+    check_joins(frame, rings)?;
     Ok(frame)
 }

@@ -2,7 +2,7 @@
 -- are cut back into themselves.
 -- A ring has as many coedges as its block's first byte says, and each coedge 17 points.
 use mathlib.Core.Path.{◌≡◌, refl, sym, ap, ap₂, ◌∙◌}
-use mathlib.Core.Bool.{Bool, true, false, ◌&&◌, true≢false}
+use mathlib.Core.Bool.{true, ◌&&◌}
 use mathlib.Core.List.{List, [], ◌∷◌, ◌++◌, flatten, flat_map}
 use Prim.Native.Nat.{ℕ, zero, suc, ◌+◌, ◌*◌, ◌≤◌, ◌<◌}
 use native.Mathlib.Nat.{add-zero}
@@ -11,6 +11,8 @@ use lib.Dec.{leb}
 use lib.ListN.{length, get_or, take, drop, take-append-drop, length-append, get_or-append}
 use lib.Seq.{length-take-le, get_or-take, get_or-drop, take_at, drop_at}
 use borrow.Author.Tests.{leb-true, eqb-true, le-leb}
+use Rattle.std.proofs.lemmas.Bool.{and_parts}
+use Rattle.std.proofs.lemmas.List.{nil_from_length}
 use Rattle.leaves.proofs.Folds.{All}
 use Rattle.sheet.specs.Content.{Coedge, ring_points}
 use Rattle.sheet.specs.Layout.{kind, ring_count, head_size, block_size, cut, blocks, points, coedge, coedges, ring}
@@ -41,23 +43,15 @@ first_byte s = get_or-take (block_size s) s 0 0 (block_size_pos s)
 abbrev pub Block : List ℕ → Type 0
 Block b = length b ≡ block_size b
 
-both : (a b : Bool) → (a && b) ≡ true → (a ≡ true) × (b ≡ true)
-both true b e = (refl, e)
-both false b e = absurd (true≢false (sym e))
-
-no_bytes : (s : List ℕ) → length s ≡ 0 → s ≡ []
-no_bytes [] e = refl
-no_bytes (x ∷ xs) e = absurd (omega arith)
-
 fill_none : (s : List ℕ) → fill zero s ≡ true → s ≡ []
 unfolding fill
-fill_none s e = no_bytes s (eqb-true (length s) 0 e)
+fill_none s e = nil_from_length s (eqb-true (length s) 0 e)
 
 -- the first of the blocks that fill s, and what fills the rest
 pub fill_first : (n : ℕ) (s : List ℕ) → fill (suc n) s ≡ true → (block_size s ≤ length s) × (fill n (drop (block_size s) s) ≡ true)
 unfolding fill
 fill_first n s e =
-    let p = both (leb (block_size s) (length s)) (fill n (drop (block_size s) s)) e in
+    let p = and_parts (leb (block_size s) (length s)) (fill n (drop (block_size s) s)) e in
     (leb-true (block_size s) (length s) p.0, p.1)
 
 pub cut_length : (n : ℕ) (s : List ℕ) → length (cut n s) ≡ n

@@ -9,6 +9,7 @@ use lib.Ieee.{of_bits, lt, le}
 use lib.Ieee.Positive.{num}
 use lib.ListN.{length, drop}
 use borrow.Author.Tests.{ltb-false, eqb-true, eqb-false, not-false}
+use Rattle.std.proofs.lemmas.Bool.{or_parts}
 use Rattle.leaves.specs.Constants.{plus_zero, deviation_limit}
 use Rattle.leaves.proofs.Folds.{All, all_append}
 use Rattle.leaves.proofs.Magnitudes.{Most}
@@ -17,7 +18,7 @@ use Rattle.answers.specs.Limits.{beyond}
 use Rattle.answers.specs.Lists.{any_of}
 use Rattle.sheet.specs.Layout.{length_field, version, kind, sense, ring_count, head_size, plane, blocks, ring, sheet_of}
 use Rattle.answers.specs.Outcome.{Check, first}
-use Rattle.answers.proofs.AnyOf.{neither, any_false}
+use Rattle.answers.proofs.AnyOf.{any_false}
 use Rattle.answers.proofs.Finite.{not_beyond_most}
 use Rattle.answers.proofs.FirstCheck.{Numbered, none_fails, append_none}
 use Rattle.answers.proofs.Permutations.{all_weaken}
@@ -84,7 +85,7 @@ head_size_most k = go (eqb k 0)
 length_right_lem : (s : List ℕ) → length_wrong s ≡ false → (8 ≤ length s) × (length_field s ≡ length s - 4)
 unfolding length_wrong
 length_right_lem s e =
-    let p = neither (ltb (length s) 8) (not (eqb (length_field s) (length s - 4))) e in
+    let p = or_parts (ltb (length s) 8) (not (eqb (length_field s) (length s - 4))) e in
     (ltb-false (length s) 8 p.0, eqb-true (length_field s) (length s - 4) (not-false (eqb (length_field s) (length s - 4)) p.1))
 
 version_right_lem : (s : List ℕ) → version_wrong s ≡ false → version s ≡ 1
@@ -94,13 +95,13 @@ version_right_lem s e = eqb-true (version s) 1 (not-false (eqb (version s) 1) e)
 kind_right_lem : (s : List ℕ) → kind_wrong s ≡ false → (kind s ≤ 6) × (sense s ≤ 2)
 unfolding kind_wrong
 kind_right_lem s e =
-    let p = neither (ltb 6 (kind s)) (ltb 2 (sense s)) e in
+    let p = or_parts (ltb 6 (kind s)) (ltb 2 (sense s)) e in
     (ltb-false 6 (kind s) p.0, ltb-false 2 (sense s) p.1)
 
 count_right_lem : (s : List ℕ) → count_wrong s ≡ false → (1 ≤ ring_count s) × (ring_count s ≤ 16)
 unfolding count_wrong
 count_right_lem s e =
-    let p = neither (eqb (ring_count s) 0) (ltb 16 (ring_count s)) e in
+    let p = or_parts (eqb (ring_count s) 0) (ltb 16 (ring_count s)) e in
     let some = eqb-false (ring_count s) 0 p.0 in
     (omega arith, ltb-false 16 (ring_count s) p.1)
 
@@ -109,7 +110,7 @@ unfolding blocks_wrong
 blocks_right_lem s e =
     let h = head_size (kind s) in
     let f = fill (ring_count s) (drop h s) in
-    let p = neither (ltb (length s) h) (not f) e in
+    let p = or_parts (ltb (length s) h) (not f) e in
     (ltb-false (length s) h p.0, not-false f p.1)
 
 pub laid : (s : List ℕ) → first (layout_checks s) ≡ 0 → Laid s
@@ -157,13 +158,13 @@ full ((c ∷ cs) ∷ rs) h = (omega arith, full rs h.1)
 pub coedges_right_lem : (rings : List (List Coedge)) → coedges_wrong rings ≡ false → All (λ (r : List Coedge). 1 ≤ length r) rings × (coedge_total rings ≤ 128)
 unfolding coedges_wrong
 coedges_right_lem rings e =
-    let p = neither (any_of empty rings) (ltb 128 (coedge_total rings)) e in
+    let p = or_parts (any_of empty rings) (ltb 128 (coedge_total rings)) e in
     (full rings (any_false empty rings p.0), ltb-false 128 (coedge_total rings) p.1)
 
 pub numbers_right_lem : (s : Sheet) → numbers_wrong s ≡ false → (plane_wrong s.plane ≡ false) × All (λ (r : List Coedge). ring_wrong r ≡ false) s.rings
 unfolding numbers_wrong
 numbers_right_lem s e =
-    let p = neither (plane_wrong s.plane) (any_of ring_wrong s.rings) e in
+    let p = or_parts (plane_wrong s.plane) (any_of ring_wrong s.rings) e in
     (p.0, any_false ring_wrong s.rings p.1)
 
 pub checked : (s : List ℕ) → first (layout_checks s ++ content_checks (sheet_of s)) ≡ 0 → Checked s
@@ -202,13 +203,13 @@ MostPoint n p = Most n p.u × Most n p.v
 point_most : (p : Point) → point_wrong p ≡ false → MostPoint coordinate_most p
 unfolding point_wrong
 point_most p e =
-    let q = neither (beyond coordinate_limit p.u) (beyond coordinate_limit p.v) e in
+    let q = or_parts (beyond coordinate_limit p.u) (beyond coordinate_limit p.v) e in
     (not_beyond_most coordinate_most coordinate_limit p.u limit_most q.0, not_beyond_most coordinate_most coordinate_limit p.v limit_most q.1)
 
 coedge_most : (c : Coedge) → coedge_wrong c ≡ false → All (MostPoint coordinate_most) c.points
 unfolding coedge_wrong
 coedge_most c e =
-    let p = neither (not (le plus_zero c.deviation && lt c.deviation deviation_limit)) (any_of point_wrong c.points) e in
+    let p = or_parts (not (le plus_zero c.deviation && lt c.deviation deviation_limit)) (any_of point_wrong c.points) e in
     all_weaken (λ (p : Point). point_wrong p ≡ false) (MostPoint coordinate_most) point_most c.points (any_false point_wrong c.points p.1)
 
 pub ring_most : (r : List Coedge) → ring_wrong r ≡ false → All (MostPoint coordinate_most) (ring_points r)

@@ -1,10 +1,8 @@
--- The walks, a step at a time: of what is left after k of n, the first is what stands at the place, and the rest is
--- what is left after k + 1.
+-- The checks of the ring blocks, a step at a time.
 use mathlib.Core.Path.{◌≡◌, refl, sym, ap, ap₂, ◌∙◌}
 use mathlib.Core.Bool.{Bool, true, false, not, ◌&&◌, ◌||◌}
 use mathlib.Core.List.{List, [], ◌∷◌, map, foldl}
-use Prim.Native.Nat.{ℕ, suc, ◌+◌, ◌-◌, ◌*◌, ◌≤◌, ◌<◌}
-use native.Mathlib.Nat.{mul-add, mul-one}
+use Prim.Native.Nat.{ℕ, suc, ◌+◌, ◌-◌, ◌≤◌, ◌<◌}
 use native.Mathlib.Omega.{arith}
 use lib.Dec.{leb, ltb, eqb}
 use lib.ListN.{length, get_or, take, drop}
@@ -14,7 +12,7 @@ use borrow.Author.Tests.{eq-eqb, ne_eqb, le-leb, lt-leb}
 use Rattle.leaves.specs.Constants.{plus_zero, deviation_limit}
 use Rattle.sheet.specs.Content.{Coedge}
 use Rattle.answers.specs.Lists.{any_of}
-use Rattle.sheet.specs.Layout.{kind, plane, number, numbers, coedge, coedges, ring, block_size, cut}
+use Rattle.sheet.specs.Layout.{kind, plane, number, numbers, coedge, ring, block_size}
 use Rattle.sheet.specs.Checks.{fill, empty, coordinate_limit, axis_limit, point_wrong, plane_wrong, coedge_wrong, coedges_wrong}
 use Rattle.answers.specs.Limits.{beyond}
 use Rattle.sheet.proofs.Blocks.{ring_length}
@@ -25,28 +23,7 @@ one_less n k h = omega arith
 none_left : (n k : ℕ) → n ≤ k → n - k ≡ 0
 none_left n k h = omega arith
 
--- ---- coedges, which stand in equal steps
-
-stride : (s : List ℕ) (a w k : ℕ) → drop w (drop (a + w * k) s) ≡ drop (a + w * (k + 1)) s
-stride s a w k = drop-drop w (a + w * k) s ∙ ap (λ (i : ℕ). drop i s) (next (w * k) (w * (k + 1)) (simp (mul-add, mul-one)))
-  where
-    next : (x y : ℕ) → y ≡ x + w → a + x + w ≡ a + y
-    next x y e = omega arith
-
-pub coedges_step : (s : List ℕ) (a n k : ℕ) → k < n → coedges (n - k) (drop (a + 280 * k) s) ≡ coedge (drop (a + 280 * k) s) ∷ coedges (n - (k + 1)) (drop (a + 280 * (k + 1)) s)
-unfolding coedges
-coedges_step s a n k h =
-    ap (λ (m : ℕ). coedges m (drop (a + 280 * k) s)) (one_less n k h)
-    ∙ ap (λ (l : List ℕ). coedge (drop (a + 280 * k) s) ∷ coedges (n - (k + 1)) l) (stride s a 280 k)
-
-pub coedges_end : (s : List ℕ) (n k : ℕ) → n ≤ k → coedges (n - k) s ≡ []
-unfolding coedges
-coedges_end s n k h = ap (λ (m : ℕ). coedges m s) (none_left n k h)
-
--- the ring in a block, and what stands first in a coedge
-pub ring_is : (block : List ℕ) → ring block ≡ coedges (get_or block 0 0) (drop 1 block)
-unfolding ring
-ring_is block = refl
+-- ---- what stands first in a coedge
 
 pub deviation_is : (s : List ℕ) → (coedge s).deviation ≡ number s
 unfolding coedge
@@ -82,16 +59,6 @@ no_plane_lem s e = rw (ne_eqb (kind s) 0 e)
 
 -- ---- blocks, whose sizes differ
 
-pub cut_step : (s : List ℕ) (at n k : ℕ) → k < n → cut (n - k) (drop at s) ≡ take (block_size (drop at s)) (drop at s) ∷ cut (n - (k + 1)) (drop (at + block_size (drop at s)) s)
-unfolding cut
-cut_step s at n k h =
-    ap (λ (m : ℕ). cut m (drop at s)) (one_less n k h)
-    ∙ ap (λ (l : List ℕ). take (block_size (drop at s)) (drop at s) ∷ cut (n - (k + 1)) l) (drop-drop (block_size (drop at s)) at s)
-
-pub cut_end : (s : List ℕ) (n k : ℕ) → n ≤ k → cut (n - k) s ≡ []
-unfolding cut
-cut_end s n k h = ap (λ (m : ℕ). cut m s) (none_left n k h)
-
 fill_suc : (s : List ℕ) (n k : ℕ) → k < n → fill (n - k) s ≡ (leb (block_size s) (length s) && fill (n - (k + 1)) (drop (block_size s) s))
 unfolding fill
 fill_suc s n k h = ap (λ (m : ℕ). fill m s) (one_less n k h)
@@ -105,14 +72,6 @@ fill_short s n k h short = fill_suc s n k h ∙ rw (lt-leb (block_size s) (lengt
 pub fill_end : (s : List ℕ) (n k : ℕ) → n ≤ k → fill (n - k) s ≡ eqb (length s) 0
 unfolding fill
 fill_end s n k h = ap (λ (m : ℕ). fill m s) (none_left n k h)
-
--- the rings from a place on
-pub rings_step : (s : List ℕ) (at n k : ℕ) → k < n
-    → map ring (cut (n - k) (drop at s)) ≡ ring (take (block_size (drop at s)) (drop at s)) ∷ map ring (cut (n - (k + 1)) (drop (at + block_size (drop at s)) s))
-rings_step s at n k h = ap (map ring) (cut_step s at n k h)
-
-pub rings_end : (s : List ℕ) (n k : ℕ) → n ≤ k → map ring (cut (n - k) s) ≡ []
-rings_end s n k h = ap (map ring) (cut_end s n k h)
 
 -- ---- the coedges of the rings, of which `total` were counted before
 

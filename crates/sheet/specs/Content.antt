@@ -1,7 +1,7 @@
 -- What a sheet says: the surface's kind and sense, the plane's numbers, and the rings that trim it.
 -- A ring is a list of coedges, a coedge a deviation and the points (u, v) sampled along it, however many.
-use mathlib.Core.List.{List, [], ◌∷◌, ◌++◌, flat_map}
-use Rattle.std.specs.Prelude.{ℕ, ◌*◌, ◌/◌, length, drop, Float}
+use mathlib.Core.List.{List, [], ◌∷◌, flat_map}
+use Rattle.std.specs.Prelude.{ℕ, Float}
 use Rattle.sheet.specs.declared.point.Point as declared
 
 -- the code's struct (src/point.rt)
@@ -36,8 +36,3 @@ pairs (u ∷ v ∷ rest) = point u v ∷ pairs rest
 unfoldable pub flat : List Point → List Float
 flat [] = []
 flat (p ∷ ps) = p.u ∷ p.v ∷ flat ps
-
--- the list of numbers whose points are changed; a last number that is no point's stays
-unfoldable pub on_points : (List Point → List Point) → List Float → List Float
-unfolding pairs flat
-on_points change xs = flat (change (pairs xs)) ++ drop (2 * (length xs / 2)) xs

@@ -2,27 +2,28 @@
 ghost use Rattle.std.specs.Prelude.{◌≡◌, ◌+◌, ◌<◌, ◌≤◌, length, get_or, take, drop};
 ghost use Rattle.sheet.specs.Layout.{big, number as number_at, number_of, head_size, block_size};
 
+use std::num::f64_from_bits_with_nan;
+
 // Ring blocks of a sheet, and coedges of all of them together, at most.
 pub const MOST_RINGS: usize = 16;
 
 pub const MOST_COEDGES: usize = 128;
 
 // A block begins with its coedge count; a coedge is a deviation and seventeen points of two f64.
-pub const BLOCK_HEAD: usize = 1;
+pub(crate) const BLOCK_HEAD: usize = 1;
 
-pub const COEDGE_SIZE: usize = 280;
+pub(crate) const COEDGE_SIZE: usize = 280;
 
 pub const COEDGE_POINTS: usize = 17;
 
-// Where a block's first point stands, behind the count and the first deviation.
-pub const FIRST_POINT: usize = 9;
+// How many points a sheet has at most, and one of at most 16 coedges, as nearly every face's is.
+pub const MOST_POINTS: usize = 2176;
 
-// How many numbers the points of a coedge are, and those of a whole sheet at most.
-pub const COEDGE_NUMBERS: usize = 34;
+pub const SMALL_POINTS: usize = 272;
 
+// The same in numbers.
 pub const MOST_NUMBERS: usize = 4352;
 
-// Those of a sheet of at most 16 coedges, as nearly every face's is.
 pub const SMALL_NUMBERS: usize = 544;
 
 // The byte at a place; 0 past the end.
@@ -40,16 +41,15 @@ pub(crate) fn word(s: &[u8]) -> u32
     u32::from_be_bytes([s[0], s[1], s[2], s[3]])
 }
 
-// The f64 of these bits; -0 as +0. from_bits takes no NaN's pattern, so a NaN is made anew.
+// The f64 of these bits; -0 as +0.
+#[tactic(auto, unfolding(crate::specs::Layout::number_of))]
 fn float(bits: u64) -> f64
     ensures { result ≡ number_of bits }
 {
     if bits % 0x8000_0000_0000_0000 == 0 {
         0.0
-    } else if 0x7FF0_0000_0000_0000 < bits % 0x8000_0000_0000_0000 {
-        0.0 / 0.0
     } else {
-        f64::from_bits(bits)
+        f64_from_bits_with_nan(bits)
     }
 }
 
@@ -74,10 +74,10 @@ pub fn head_size(kind: u8) -> usize
     if kind == 0 { 80 } else { 8 }
 }
 
-// The size of the ring block that starts at a place.
+// The size of the ring block that the bytes begin with.
 #[tactic(auto, unfolding(crate::specs::Layout::block_size))]
-pub fn block_size(s: &[u8], at: usize) -> usize
-    ensures { result ≡ block_size (drop at s.now) }
+pub(crate) fn block_size(s: &[u8]) -> usize
+    ensures { result ≡ block_size s.now }
 {
-    BLOCK_HEAD + COEDGE_SIZE * (byte_at(s, at) as usize)
+    BLOCK_HEAD + COEDGE_SIZE * byte_at(s, 0) as usize
 }

@@ -11,8 +11,8 @@ mod walk;
 
 pub use checks::check;
 pub use fields::{
-    BLOCK_HEAD, COEDGE_NUMBERS, COEDGE_POINTS, COEDGE_SIZE, FIRST_POINT, MOST_COEDGES,
-    MOST_NUMBERS, MOST_RINGS, SMALL_NUMBERS, block_size, byte_at, head_size, number,
+    COEDGE_POINTS, MOST_COEDGES, MOST_NUMBERS, MOST_POINTS, MOST_RINGS, SMALL_NUMBERS,
+    SMALL_POINTS, byte_at, head_size, number,
 };
 pub use parts::{BlockCoedges, CoedgePoints, RingBlocks, coedges, points, ring_blocks};
 pub use point::Point;

@@ -48,7 +48,7 @@ impl<'a> Iterator for RingBlocks<'a> {
 
     fn next(&mut self) -> Option<&'a [u8]> {
         self.left = self.left.checked_sub(1)?;
-        let (block, rest) = parted(self.rest, block_size(self.rest, 0));
+        let (block, rest) = parted(self.rest, block_size(self.rest));
         self.rest = rest;
         Some(block)
     }

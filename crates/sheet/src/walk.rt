@@ -60,7 +60,7 @@ pub(crate) fn blocks_fill(s: &[u8], count: u8) -> bool
 {
     let mut rest = s;
     for _ in 0..count {
-        match rest.get(block_size(rest, 0)..) {
+        match rest.get(block_size(rest)..) {
             Some(behind) => rest = behind,
             None => return false,
         }

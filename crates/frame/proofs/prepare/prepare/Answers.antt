@@ -1,70 +1,41 @@
--- `frame::prepare::prepare` meets its contract. The invariant: the rings of the blocks before `at` are moved and noted,
--- and those left fill the rest of the list. A block has at most 71401 bytes, so no place
--- wraps.
-use mathlib.Core.Path.{refl, ◌∙◌}
-use Prim.Native.Nat.{◌+◌, ◌*◌, ◌≤◌, ◌<◌}
-use native.Mathlib.Omega.{arith}
-use lib.ListN.{length}
-use Rattle.sheet.proofs.Blocks.{block_size_at}
-use Rattle.frame.proofs.Preparing.{none_prepared, part_within, ring_room, same_size, ring_prepared, all_moved, all_parted}
+-- `frame::prepare::prepare` moves every ring in its part of the list and notes where it ends. The invariant: the rings
+-- before the next block are moved, and the lists have room for just those that are left.
+use Rattle.std.proofs.Common.{◌≡◌, ◌+◌, ◌*◌, sym, ap, ◌∙◌, arith, inl, length, map, ℕ}
+use mathlib.Core.List.{flatten}
+use Rattle.sheet.specs.Layout.{blocks, sheet_of}
+use Rattle.sheet.proofs.Blocks.{blocks_most}
+use Rattle.frame.specs.Framing.{moved_rings}
+use Rattle.frame.specs.Parts.{ends_from}
+use Rattle.frame.specs.Stages.{moved_block}
+use Rattle.frame.proofs.Counting.{count_of_blocks, blocks_count}
+use Rattle.frame.proofs.Preparing.{none_prepared, part_within, ring_prepared, all_prepared}
+use Rattle.frame.proofs.SheetFrame.{sheet_moved}
 use Rattle.frame.proofs.prepare.prepare.Goals as goal
 
 pub loop-k-init : goal.loop-k-init
 loop-k-init c =
-    (omega arith, refl, omega (arith, c.requires.0), none_prepared c.args.kind c.args.phase c.args.s.now c.args.start c.args.points.now c.args.ends.now c.requires.2)
+    let s = c.args.s.now in
+    let seventh = c.type_inv.s 7 in
+    let few = blocks_most s (omega arith) in
+    let all : c.into_iter-k-iterator.result.iter ≡ blocks s = ap (λ i. i.iter) c.into_iter-k-iterator.ensures.into_iter_gives ∙ c.enumerate-k-items.ensures.source ∙ c.ring_blocks.ensures in
+    let first : c.into_iter-k-iterator.result.count ≡ 0 = ap (λ i. i.count) c.into_iter-k-iterator.ensures.into_iter_gives ∙ c.enumerate-k-items.ensures.count in
+    rw (all, first) ((tt, tt, inl (omega arith)), tt, omega arith, none_prepared c.byte_at-kind.result c.args.phase c.args.points.now c.args.ends.now (blocks s) (sym (count_of_blocks s) ∙ sym c.requires.0) (blocks_count s ∙ sym c.requires.1))
 
-pub overflow_add-to : goal.overflow_add-to
-overflow_add-to c =
-    let more : c.loop-k.k < length c.args.ends.now = omega (arith, c.loop-k-test.true, c.loop-k.invariant.3.count) in
-    let room : c.loop-k.from + 34 * c.byte_at.result ≤ length c.loop-k.points = omega (arith, part_within c.loop-k.invariant.3 more, c.byte_at.ensures) in
-    omega (arith, room)
-
-pub overflow_add-next : goal.overflow_add-next
-overflow_add-next c =
-    let more : c.loop-k.k < length c.args.ends.now = omega (arith, c.loop-k-test.true, c.loop-k.invariant.3.count) in
-    let size_most : c.block_size.result ≤ 71401 = omega (arith, c.block_size.ensures, block_size_at c.args.s.now c.loop-k.at, c.byte_at.ensures) in
-    omega (arith, c.requires.1, more, size_most)
-
-pub move_ring-requires : goal.move_ring-requires
-move_ring-requires c =
-    let more : c.loop-k.k < length c.args.ends.now = omega (arith, c.loop-k-test.true, c.loop-k.invariant.3.count) in
-    let low = c.held-low in
-    let high = c.held-high in
-    let size = c.block_size in
-    let byte = c.byte_at in
-    ring_room c.loop-k.invariant.3 more size.result byte.result low.result high.result size.ensures byte.ensures low.ensures high.ensures
+pub slice_bounds-move_ring-end : goal.slice_bounds-move_ring-end
+slice_bounds-move_ring-end c =
+    let within = part_within c.loop-k.invariant.3 c.in-Some.ensures.steps.0 in
+    omega (arith, c.byte_at.ensures)
 
 pub loop-k-preserved : goal.loop-k-preserved
 loop-k-preserved c =
-    let more : c.loop-k.k < length c.args.ends.now = omega (arith, c.loop-k-test.true, c.loop-k.invariant.3.count) in
-    let size_most : c.block_size.result ≤ 71401 = omega (arith, c.block_size.ensures, block_size_at c.args.s.now c.loop-k.at, c.byte_at.ensures) in
-    let p = c.loop-k.invariant.3 in
-    let another = more in
-    let low = c.held-low in
-    let high = c.held-high in
-    let size = c.block_size in
-    let byte = c.byte_at in
-    let m = c.move_ring.ensures in (
-      omega arith,
-      same_size p another size.result byte.result low.result high.result _ size.ensures byte.ensures low.ensures high.ensures m ∙ c.loop-k.invariant.1,
-      omega (arith, size_most),
-      ring_prepared p another size.result byte.result low.result high.result _ size.ensures byte.ensures low.ensures high.ensures m,
-    )
+    let steps = c.in-Some.ensures.steps in
+    let prepared = ring_prepared c.loop-k.invariant.3 steps.0 (c.loop-k.from + 17 * c.byte_at.result) (ap (λ (n : ℕ). c.loop-k.from + 17 * n) c.byte_at.ensures) c.move_ring.ensures in
+    let left = ap length steps.0 in
+    ((tt, tt, inl (omega arith)), tt, omega arith, rw (steps.1, steps.2) prepared)
 
 pub returns : goal.returns
 returns c =
-    let p = c.loop-k.invariant.3 in
-    let none : length c.args.ends.now ≤ c.loop-k.k = omega (arith, c.loop-k-test.false, p.count) in
-    (all_moved p none, all_parted p none)
-
-pub offset_bounds-points-from : goal.offset_bounds-points-from
-offset_bounds-points-from c =
-    let more : c.loop-k.k < length c.args.ends.now = omega (arith, c.loop-k-test.true, c.loop-k.invariant.3.count) in
-    let room : c.loop-k.from + 34 * c.byte_at.result ≤ length c.loop-k.points = omega (arith, part_within c.loop-k.invariant.3 more, c.byte_at.ensures) in
-    omega (arith, room)
-
-pub slice_bounds-move_ring-end-in-loop-k : goal.slice_bounds-move_ring-end-in-loop-k
-slice_bounds-move_ring-end-in-loop-k c =
-    let more : c.loop-k.k < length c.args.ends.now = omega (arith, c.loop-k-test.true, c.loop-k.invariant.3.count) in
-    let room : c.loop-k.from + 34 * c.byte_at.result ≤ length c.loop-k.points = omega (arith, part_within c.loop-k.invariant.3 more, c.byte_at.ensures) in
-    omega (arith, room)
+    let s = c.args.s.now in
+    let rings : map (moved_block c.byte_at-kind.result c.args.phase) (blocks s) ≡ moved_rings (sheet_of s) c.args.phase = ap (λ (k : ℕ). map (moved_block k c.args.phase) (blocks s)) c.byte_at-kind.ensures ∙ sym (sheet_moved s c.args.phase) in
+    let all = all_prepared c.loop-k.invariant.3 c.in-None.ensures.steps.0.0 in
+    (all.0 ∙ ap flatten rings, all.1 ∙ ap (ends_from 0) rings)
