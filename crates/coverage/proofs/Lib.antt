@@ -7,5 +7,6 @@ pub mod Columns
 -- how large a winding can be
 pub mod Windings
 -- the rings in one list, and what they cover
-pub mod Cutting
+pub mod RingSums
 pub mod Parity
+pub mod Sides

@@ -5,6 +5,7 @@
 use mathlib.Core.Path.{◌≡◌, sym, ap, ◌∙◌}
 use mathlib.Core.Bool.{Bool, true, false, not}
 use Prim.Native.Nat.{ℕ, ◌≤◌}
+use native.Mathlib.Omega.{arith}
 use lib.Dec.{T}
 use lib.Ieee.{Float, binary64, of_bits, add, sub, fits, eq, le}
 use Rattle.leaves.specs.Constants.{plus_zero}
@@ -35,6 +36,11 @@ added_same c x y n h k p q = by (eq x plus_zero) (λ t. t) (λ t. t)
     by true z o =
         ap (add binary64 c) (zero_of_eq binary64 y k (equal_zero x y h k p q (z tt))) ∙ add_any_zero binary64 c n (sign y) (sign x) ∙ sym (ap (add binary64 c) (zero_of_eq binary64 x h (z tt)))
     by false z o = ap (add binary64 c) (same_nonzero binary64 x y h k (o tt) q p)
+
+-- ---- at one column
+
+pub turning_at : (period mid : Float) (i : ℕ) → Turning period mid i i (turn_at period mid i)
+turning_at period mid i m h k = let e : m ≡ i = omega arith in rw e
 
 -- ---- between two columns
 

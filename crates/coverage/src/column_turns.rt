@@ -4,13 +4,49 @@
 ghost use Rattle.std.specs.Prelude.{◌≡◌, ◌≤◌};
 ghost use Rattle.coverage.specs.Lines.{turn_at, Turning};
 
-use points::{keeps_order, part, whole_turns};
+use points::{column_ahead, keeps_order, part, whole_turns};
 
-// Turns, and a column up to which they serve.
+// The turns of a segment with the middle mid, at the columns from one up to another.
 #[derive(Clone, Copy)]
-pub(crate) struct ColumnTurn {
+pub(crate) struct ColumnTurns {
+    pub period: f64,
+    pub mid: f64,
     pub by: f64,
+    pub from: u32,
     pub until: u32,
+    ghost serving: { Turning period mid from until by },
+}
+
+impl ColumnTurns {
+    // At no column yet.
+    pub(crate) fn new(period: f64, mid: f64) -> ColumnTurns
+        ensures { (result.period ≡ period) × (result.mid ≡ mid) × (result.from ≡ 1) }
+    {
+        ColumnTurns {
+            period,
+            mid,
+            by: 0.0,
+            from: 1,
+            until: 0,
+        }
+    }
+
+    // Those at column i: they stay where they still serve, else they are worked out.
+    pub(crate) fn bring_to(&mut self, i: u32)
+        requires { (self.old.from ≤ i) × (i ≤ 31) }
+        ensures { (self.new.period ≡ self.old.period) × (self.new.mid ≡ self.old.mid) × (self.new.from ≤ i) × (i ≤ self.new.until) }
+    {
+        if self.until < i {
+            let by = turn_at(self.period, self.mid, i);
+            *self = ColumnTurns {
+                period: self.period,
+                mid: self.mid,
+                by,
+                from: i,
+                until: turned_until(self.period, self.mid, i, by),
+            };
+        }
+    }
 }
 
 // The turns at column i of a segment with the middle mid.
@@ -28,33 +64,5 @@ fn turned_until(period: f64, mid: f64, i: u32, by: f64) -> u32
     if !keeps_order(period, mid) {
         return i;
     }
-    if by == turn_at(period, mid, 31) {
-        return 31;
-    }
-    let mut step: u32 = 16;
-    while 0 < step {
-        let m = i + step;
-        if m < 31 {
-            if by == turn_at(period, mid, m) {
-                return m;
-            }
-        }
-        step /= 2;
-    }
-    i
-}
-
-// The turns at column i: those at hand where they still serve, else worked out.
-pub(crate) fn turned(period: f64, mid: f64, i: u32, last: ColumnTurn) -> ColumnTurn
-    requires { (i ≤ 31) × Turning period mid i last.until last.by }
-    ensures { (i ≤ result.until) × Turning period mid i result.until result.by }
-{
-    if i <= last.until {
-        return last;
-    }
-    let by = turn_at(period, mid, i);
-    ColumnTurn {
-        by,
-        until: turned_until(period, mid, i, by),
-    }
+    column_ahead(i, |m| by == turn_at(period, mid, m)).unwrap_or(i)
 }

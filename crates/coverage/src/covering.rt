@@ -1,5 +1,5 @@
 // Rule 7 over all rings, in one pass over one grid.
-ghost use Rattle.std.specs.Prelude.{◌≡◌, Bool, true, false, ℕ, ◌≤◌, ◌<◌, ℤ, pos, ◌+ℤ◌, length, take, replicate};
+ghost use Rattle.std.specs.Prelude.{◌≡◌, Bool, true, false, ℕ, ◌≤◌, ℤ, pos, ◌+ℤ◌, length, take, replicate};
 ghost use Rattle.std.specs.Bool.{xor};
 ghost use mathlib.Core.List.{List, foldl};
 ghost use Rattle.sheet.specs.Content.{Point};
@@ -7,116 +7,86 @@ ghost use Rattle.answers.specs.Lists.{over};
 ghost use Rattle.points.specs.Grid.{grid_of, grid_point};
 ghost use Rattle.inside.specs.Inside.{inside_of};
 ghost use Rattle.inside.specs.Lines.{Holds, by_columns, by_rows};
-ghost use Rattle.frame.specs.Parts.{rings_from};
+ghost use Rattle.frame.specs.Parts.{rings_from, rings_in};
 ghost use Rattle.coverage.specs.Coverage.{winding_of, covered as covered_of};
 
-use crate::marks::{GRID_POINTS, mark_flips, mark_windings};
+use crate::marks::{mark_flips, mark_windings};
 use crate::winding::add_ring;
-use frame::Frame;
+use frame::{Frame, Rings};
+use inside::GRID_POINTS;
+use sheet::MOST_POINTS;
 
-// At most so many ends are looked at, more than a sheet can have, and as many numbers as the largest sheet has. So no
+// At most so many rings are looked at, more than a sheet can have, and as many points as the largest sheet has. So no
 // sum of windings overflows.
-const MOST_ENDS: usize = 256;
+const MOST_RINGS: usize = 256;
 
-// A place that is no earlier than `low` and no later than `high`.
-fn place(at: usize, low: usize, high: usize) -> usize
-    requires { low ≤ high }
-    ensures { (low ≤ result) × (result ≤ high) × (low ≤ at → at ≤ high → result ≡ at) × (at < low → result ≡ low) × (high < at → result ≡ high) }
+// The rings that are looked at.
+#[tactic(auto, using(std::proofs::lemmas::List::take_min))]
+fn looked_at(rings: Rings) -> Rings
+    ensures { (result.points.now ≡ take 2176 rings.entry.points.now) × (result.ends.now ≡ take 256 rings.entry.ends.now) }
 {
-    if at < low {
-        low
-    } else if high < at {
-        high
-    } else {
-        at
+    let points = MOST_POINTS.min(rings.points.len());
+    let ends = MOST_RINGS.min(rings.ends.len());
+    Rings {
+        points: &rings.points[..points],
+        ends: &rings.ends[..ends],
     }
 }
 
 // Adds up the windings of all rings at every grid point, over cells of zeros in the grid's order.
-fn add_rings(period: f64, points: &[f64], ends: &[usize], cells: &mut [i64])
-    requires { (length points.now ≤ 4352) × (length ends.now ≤ 256) × (cells.old ≡ replicate 961 (pos 0)) }
-    ensures { Holds (pos 0) 961 cells.new (λ (k : ℕ). foldl (λ (n : ℤ) (ring : List Point). n +ℤ winding_of period (by_columns k) ring) (pos 0) (rings_from 0 ends.now points.now)) }
+fn add_rings(period: f64, rings: Rings, cells: &mut [i64; GRID_POINTS])
+    requires { (length rings.points.now ≤ 2176) × (length rings.ends.now ≤ 256) × (cells.old ≡ replicate 961 (pos 0)) }
+    ensures { Holds (pos 0) 961 cells.new (λ (k : ℕ). foldl (λ (n : ℤ) (ring : List Point). n +ℤ winding_of period (by_columns k) ring) (pos 0) (rings_in rings.entry)) }
 {
-    let count = points.len();
-    let mut from = 0usize;
-    let mut k = 0;
-    while k < ends.len() {
-        let to = ends[k];
-        let start = place(from, 0, count);
-        let end = place(to, start, count);
-        add_ring(period, &points[start..end], cells);
-        from = to;
-        k += 1;
+    for ring in rings {
+        add_ring(period, ring, cells);
     }
 }
 
 // Flips each grid point once for each ring that it is inside of, over cells that say no, row after row.
-fn flip_rings(points: &[f64], ends: &[usize], cells: &mut [bool])
+fn flip_rings(rings: Rings, cells: &mut [bool; GRID_POINTS])
     requires { cells.old ≡ replicate 961 false }
-    ensures { Holds false 961 cells.new (λ (k : ℕ). foldl (λ (t : Bool) (ring : List Point). xor t (inside_of ring (by_rows k))) false (rings_from 0 ends.now points.now)) }
+    ensures { Holds false 961 cells.new (λ (k : ℕ). foldl (λ (t : Bool) (ring : List Point). xor t (inside_of ring (by_rows k))) false (rings_in rings.entry)) }
 {
-    let count = points.len();
-    let mut from = 0usize;
-    let mut k = 0;
-    while k < ends.len() {
-        let to = ends[k];
-        let start = place(from, 0, count);
-        let end = place(to, start, count);
-        inside::flip_ring(&points[start..end], cells);
-        from = to;
-        k += 1;
+    for ring in rings {
+        inside::flip_ring(ring, cells);
     }
 }
 
 // Marks the covered grid points of a periodic chart, by the sum of the windings.
-fn cover_by_winding(f: Frame, sense: u8, points: &[f64], ends: &[usize], covered: &mut [bool])
-    requires { (f.periodic ≡ true) × (length points.now ≤ 4352) × (length ends.now ≤ 256) × (length covered.old ≡ 961) }
-    ensures { covered.new ≡ grid_of (λ (i j : ℕ). covered_of f sense (rings_from 0 ends.now points.now) (grid_point i j)) }
+fn cover_by_winding(f: Frame, sense: u8, rings: Rings, covered: &mut [bool; GRID_POINTS])
+    requires { (f.periodic ≡ true) × (length rings.points.now ≤ 2176) × (length rings.ends.now ≤ 256) }
+    ensures { covered.new ≡ grid_of (λ (i j : ℕ). covered_of f sense (rings_in rings.entry) (grid_point i j)) }
 {
-    let mut sums = [0i64; 961];
-    add_rings(f.period, points, ends, &mut sums);
+    let mut sums = [0; GRID_POINTS];
+    add_rings(f.period, rings, &mut sums);
     mark_windings(f.band, sense, &sums, covered);
 }
 
 // Those of any other chart, by whether the number of rings that a grid point is inside of is odd: no more of it is
 // asked, since an odd number of rings is above 0.
-fn cover_by_inside(f: Frame, sense: u8, points: &[f64], ends: &[usize], covered: &mut [bool])
-    requires { (f.periodic ≡ false) × (length covered.old ≡ 961) }
-    ensures { covered.new ≡ grid_of (λ (i j : ℕ). covered_of f sense (rings_from 0 ends.now points.now) (grid_point i j)) }
+fn cover_by_inside(f: Frame, sense: u8, rings: Rings, covered: &mut [bool; GRID_POINTS])
+    requires { f.periodic ≡ false }
+    ensures { covered.new ≡ grid_of (λ (i j : ℕ). covered_of f sense (rings_in rings.entry) (grid_point i j)) }
 {
-    let mut cells = [false; 961];
-    flip_rings(points, ends, &mut cells);
+    let mut cells = [false; GRID_POINTS];
+    flip_rings(rings, &mut cells);
     mark_flips(f.band, sense, &cells, covered);
 }
 
-// Marks the covered grid points, by the chart's kind.
-fn cover_grid(f: Frame, sense: u8, points: &[f64], ends: &[usize], covered: &mut [bool])
-    requires { (length points.now ≤ 4352) × (length ends.now ≤ 256) × (length covered.old ≡ 961) }
-    ensures { covered.new ≡ grid_of (λ (i j : ℕ). covered_of f sense (rings_from 0 ends.now points.now) (grid_point i j)) }
+// Whether each grid point is covered, over the front of `covered`, whose tail keeps its contents; a list that is too
+// short for the grid stays as it is.
+pub fn cover(f: Frame, sense: u8, rings: Rings, covered: &mut [bool])
+    ensures { covered.new ≡ over (grid_of (λ (i j : ℕ). covered_of f sense (rings_from 0 (take 256 rings.entry.ends.now) (take 2176 rings.entry.points.now)) (grid_point i j))) covered.old }
 {
+    let Some(front) = covered.first_chunk_mut::<GRID_POINTS>() else {
+        return;
+    };
+    let rings = looked_at(rings);
     let periodic = f.periodic;
     if periodic {
-        cover_by_winding(f, sense, points, ends, covered);
+        cover_by_winding(f, sense, rings, front);
     } else {
-        cover_by_inside(f, sense, points, ends, covered);
+        cover_by_inside(f, sense, rings, front);
     }
-}
-
-// Whether each grid point is covered, over the front of `covered`, whose tail keeps its contents; a list that is too
-// short for the grid stays as it is. The rings' numbers stand one ring behind the other, each ring's up to its end.
-pub fn cover(f: Frame, sense: u8, points: &[f64], ends: &[usize], covered: &mut [bool])
-    ensures { covered.new ≡ over (grid_of (λ (i j : ℕ). covered_of f sense (rings_from 0 (take 256 ends.now) (take 4352 points.now)) (grid_point i j))) covered.old }
-{
-    if covered.len() < GRID_POINTS {
-        return;
-    }
-    let numbers = place(points.len(), 0, sheet::MOST_NUMBERS);
-    let count = place(ends.len(), 0, MOST_ENDS);
-    cover_grid(
-        f,
-        sense,
-        &points[..numbers],
-        &ends[..count],
-        &mut covered[..GRID_POINTS],
-    );
 }

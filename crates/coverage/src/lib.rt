@@ -1,6 +1,5 @@
 // Rule 7: which grid points the rings of a sheet cover. On a periodic chart the windings of all rings are added
-// up, else each ring flips the points inside it. A ring's points stand in a slice of f64 as u, v of the first, u, v
-// of the next, and so on; a last number that is no point's is passed over.
+// up, else each ring flips the points inside it.
 #![tactic(auto)]
 
 mod column_turns;

@@ -1,14 +1,15 @@
 // Rule 7 on one ring, over the whole grid: the ring's crossings at every grid point, whatever the chart's kind.
 ghost use Rattle.std.specs.Prelude.{◌≡◌, false, cond, ℕ, pos, length, get_or, replicate};
-ghost use Rattle.sheet.specs.Content.{pairs};
 ghost use Rattle.answers.specs.Lists.{over};
 ghost use Rattle.points.specs.Grid.{grid_of, grid_point};
 ghost use Rattle.inside.specs.Inside.{inside_of};
 ghost use Rattle.inside.specs.Lines.{Holds, in_rows};
 ghost use Rattle.coverage.specs.Coverage.{winding_of, crossing};
 
-use crate::marks::{GRID_POINTS, next_row};
+use crate::marks::next_row;
 use crate::winding::add_ring;
+use inside::GRID_POINTS;
+use sheet::Point;
 
 // Zeros in every place.
 pub fn clear(numbers: &mut [i64])
@@ -17,50 +18,48 @@ pub fn clear(numbers: &mut [i64])
     numbers.fill(0);
 }
 
-// 1 for each cell that says yes and 0 for any other, from rows into the grid's order.
-fn count_cells(cells: &[bool], crossings: &mut [i64])
-    requires { (length cells.now ≡ 961) × (length crossings.old ≡ 961) }
+// 1 for each cell that says yes and 0 for any other, from rows into the grid's order. `mark_flips` goes so, too: one
+// function for both would take what becomes of a cell as a closure, and say of the numbers only what it may have given.
+#[tactic(auto, using(inside::proofs::Cells::cell_by_cell))]
+fn count_cells(cells: &[bool; GRID_POINTS], crossings: &mut [i64; GRID_POINTS])
     ensures { Holds (pos 0) 961 crossings.new (λ (k : ℕ). cond (get_or cells.now (in_rows k) false) (pos 1) (pos 0)) }
 {
-    let mut at = 0usize;
-    let mut k = 0usize;
-    while k < GRID_POINTS {
-        crossings[k] = if cells[at] { 1 } else { 0 };
+    let mut at = 0;
+    for count in crossings.iter_mut() {
+        *count = i64::from(cells[at]);
         at = next_row(at);
-        k += 1;
     }
 }
 
 // The crossings of a ring on a chart that is not periodic: 1 inside and 0 outside.
-fn inside_grid(ring: &[f64], crossings: &mut [i64])
-    requires { length crossings.old ≡ 961 }
-    ensures { crossings.new ≡ grid_of (λ (i j : ℕ). cond (inside_of (pairs ring.now) (grid_point i j)) (pos 1) (pos 0)) }
+fn inside_grid(ring: &[Point], crossings: &mut [i64; GRID_POINTS])
+    ensures { crossings.new ≡ grid_of (λ (i j : ℕ). cond (inside_of ring.now (grid_point i j)) (pos 1) (pos 0)) }
 {
-    let mut cells = [false; 961];
+    let mut cells = [false; GRID_POINTS];
     inside::flip_ring(ring, &mut cells);
     count_cells(&cells, crossings);
 }
 
 // The crossings of a ring on a periodic chart: its winding.
-fn winding_grid(period: f64, ring: &[f64], crossings: &mut [i64])
-    requires { length crossings.old ≡ 961 }
-    ensures { crossings.new ≡ grid_of (λ (i j : ℕ). winding_of period (grid_point i j) (pairs ring.now)) }
+fn winding_grid(period: f64, ring: &[Point], crossings: &mut [i64; GRID_POINTS])
+    ensures { crossings.new ≡ grid_of (λ (i j : ℕ). winding_of period (grid_point i j) ring.now) }
 {
     clear(crossings);
     add_ring(period, ring, crossings);
 }
 
 // The ring's crossings at every grid point, in the grid's order, over the front of `crossings`, whose tail keeps its
-// contents; a list that is too short for them stays as it is.
-pub fn crossing_grid(periodic: bool, period: f64, ring: &[f64], crossings: &mut [i64])
-    ensures { crossings.new ≡ over (grid_of (λ (i j : ℕ). crossing periodic period (grid_point i j) (pairs ring.now))) crossings.old }
+// contents; a list that is too short for them stays as it is. The period stands beside `periodic` and is no option: a
+// frame has one on every chart, and `crossing` of the definitions takes both.
+pub fn crossing_grid(periodic: bool, period: f64, ring: &[Point], crossings: &mut [i64])
+    ensures { crossings.new ≡ over (grid_of (λ (i j : ℕ). crossing periodic period (grid_point i j) ring.now)) crossings.old }
 {
-    if crossings.len() < GRID_POINTS {
+    let Some(front) = crossings.first_chunk_mut::<GRID_POINTS>() else {
         return;
-    }
+    };
     if periodic {
-        winding_grid(period, ring, &mut crossings[..GRID_POINTS]);
+        winding_grid(period, ring, front);
     } else {
-        inside_grid(ring, &mut crossings[..GRID_POINTS]);
+        inside_grid(ring, front);
     }
 }

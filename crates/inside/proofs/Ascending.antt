@@ -133,6 +133,9 @@ module _ (x : Float) where
       pub below_none : count ≤ 0 → Below x count
       below_none h = record { most = none.most; is = λ m l. none.none m (omega arith) l ∙ sym (le-ltb m count (omega arith)) }
 
+-- a loop over the lines, up or down
+pub ruleset line_by_line = (none_at_end, none_above, none_lower, below_last, below_none)
+
 -- ---- the lines between two numbers
 
 between : (m p q : ℕ) → p ≤ q → xor (ltb m p) (ltb m q) ≡ leb p m && ltb m q
@@ -152,7 +155,7 @@ xor_comm true false = refl
 xor_comm false true = refl
 xor_comm false false = refl
 
-module _ (a b : Float) (p q : ℕ) (below_a : Below a p) (below_b : Below b q) where
+module _ {a b : Float} {p q : ℕ} (below_a : Below a p) (below_b : Below b q) where
   pub parted_up : p ≤ q → Parted a b p q
   parted_up h = record { order = h; most = below_b.most; is = λ m l. rw (below_a.is m l, below_b.is m l) (between m p q h) }
 

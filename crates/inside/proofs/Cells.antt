@@ -2,16 +2,17 @@
 -- changed, and of those from there on none. A step changes one cell or a whole line of them.
 use mathlib.Core.Path.{◌≡◌, refl, sym, ap, ◌∙◌}
 use mathlib.Core.Bool.{Bool, false, xor}
-use mathlib.Core.List.{List}
+use mathlib.Core.List.{List, ◌++◌}
 use Prim.Native.Nat.{ℕ, ◌+◌, ◌-◌, ◌/◌, ◌%◌, ◌<◌, ◌≤◌}
 use native.Mathlib.Decide.{dec_lt}
 use native.Mathlib.Omega.{arith}
 use lib.ListN.{length, get_or, take, drop, set, length-set, length-map}
 use lib.Seq.{get_or-set_same, get_or-set_other, get_or-take, get_or-drop, ext_get_or}
+use Rattle.std.specs.Array.{IsFirstChunk}
 use Rattle.sheet.specs.Content.{Point}
 use Rattle.points.proofs.Anew.{anew, anew_length, anew_before, anew_in, anew_after}
 use Rattle.answers.specs.Lists.{over}
-use Rattle.answers.proofs.Over.{over_all}
+use Rattle.answers.proofs.Over.{over_short, over_room, over_all}
 use Rattle.points.specs.Grid.{up_from, grid_of}
 use Rattle.inside.specs.Inside.{inside_of}
 use Rattle.inside.specs.Lines.{Holds, by_rows, flipped_by}
@@ -69,11 +70,24 @@ module _ {A : Type 0} (none : A) (size : ℕ) (change : ℕ → A → A) (old : 
     pub all_changed : size ≤ at → Holds none size l (λ (k : ℕ). change k (get_or old k none))
     all_changed h = record { count = c.count; is = λ k n. c.done k (omega arith) }
 
+-- a loop over the cells
+pub ruleset cell_by_cell = (none_changed, passed, cell_changed, all_changed)
+
 -- ---- what all cells hold is the list
 
 -- in the grid's order
 pub all_grid : {A : Type 0} (none : A) (l : List A) (f : ℕ → ℕ → A) → Holds none 961 l (λ (k : ℕ). f (k / 31 + 1) (k % 31 + 1)) → l ≡ grid_of f
 all_grid none l f h = ext_get_or none l (grid_of f) (h.count ∙ sym (grid_length f)) (λ k n. let m : k < 961 = omega (arith, h.count) in h.is k m ∙ sym (grid_nth f none k m))
+
+-- over the front of a list that has room for them, and of one that has none
+module _ {A : Type 0} (f : ℕ → ℕ → A) (old : List A) where
+  pub grid_front : {front ys : List A} → IsFirstChunk old front 961 → ys ≡ grid_of f → ys ++ drop 961 old ≡ over (grid_of f) old
+  grid_front room e =
+      let n = room.enough in
+      rw (e, over_room (grid_of f) old (omega (arith, grid_length f)), grid_length f)
+
+  pub grid_short : length old < 961 → old ≡ over (grid_of f) old
+  grid_short h = sym (over_short (grid_of f) old (omega (arith, grid_length f)))
 
 -- by rows, each flipped by a ring
 module _ (ring : List Point) (cells : List Bool) where

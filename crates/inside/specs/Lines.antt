@@ -2,10 +2,18 @@
 -- point in a list, line after line.
 use Rattle.std.specs.Prelude.{◌≡◌, Bool, false, ◌&&◌, List, map, ℕ, ◌+◌, ◌*◌, ◌/◌, ◌%◌, ◌≤◌, ◌<◌, leb, ltb, Float, length, get_or}
 use Rattle.std.specs.Bool.{xor}
-use Rattle.std.specs.Float.Ieee.{lt}
+use Rattle.std.specs.Float.{binary64}
+use Rattle.std.specs.Float.Ieee.{add, sub, mul, div, lt}
 use Rattle.sheet.specs.Content.{Point}
 use Rattle.inside.specs.Inside.{inside_of}
 use Rattle.points.specs.Grid.{part, grid_point, up_from}
+
+-- ---- the edge from b to a
+
+-- where it is at v: p is before that where `flips` holds
+unfoldable pub cut : Point → Point → Float → Float
+unfolding add sub mul div
+cut a b v = add binary64 (div binary64 (mul binary64 (sub binary64 b.u a.u) (sub binary64 v a.v)) (sub binary64 b.v a.v)) a.u
 
 -- ---- the lines 1/32 to 31/32 and a number
 

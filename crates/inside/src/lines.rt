@@ -1,94 +1,80 @@
 // `inside` over the whole grid: what an edge does to a row is worked out once for the row's 31 points.
-ghost use Rattle.std.specs.Prelude.{◌≡◌, false, ℕ, ◌≤◌, ltb, length, get_or};
+ghost use Rattle.std.specs.Prelude.{◌≡◌, false, not, ℕ, length, get_or};
 ghost use Rattle.std.specs.Bool.{xor};
-ghost use Rattle.sheet.specs.Content.{point, pairs};
 ghost use Rattle.answers.specs.Lists.{over};
 ghost use Rattle.inside.specs.Inside.{flips, inside_of};
-ghost use Rattle.inside.specs.Lines.{Below, Parted, Holds, by_rows, flipped_by};
+ghost use Rattle.inside.specs.Lines.{Parted, Holds, by_rows, flipped_by};
 
-use crate::grid_lines::lines_below;
-use points::part;
+use crate::grid_lines::{Counted, lines_below};
+use crate::point_in_ring::cut;
+use points::{Segment, part};
+use sheet::Point;
 
-// The number of grid points.
-const GRID_POINTS: usize = 961;
+// The number of grid points. Cells and sums stand in arrays of so many: there is no heap.
+pub const GRID_POINTS: usize = 961;
 
-// Flips the first `count` cells of a row.
-fn flip_row(count: u32, row: &mut [bool])
-    requires { (count ≤ 31) × (length row.old ≡ 31) }
-    ensures { Holds false 31 row.new (λ (m : ℕ). xor (get_or row.old m false) (ltb m count)) }
+// Flips every cell.
+#[tactic(auto, using(crate::proofs::Cells::cell_by_cell))]
+fn flip(cells: &mut [bool])
+    ensures { Holds false (length cells.old) cells.new (λ (m : ℕ). not (get_or cells.old m false)) }
 {
-    let end = count as usize;
-    let mut m = 0usize;
-    while m < end {
-        row[m] = !row[m];
-        m += 1;
+    for cell in cells {
+        *cell = !*cell;
     }
 }
 
 // What the edge from b to a flips in the rows after the first `low`, up to `high` of them. The cells of
 // a row stand side by side.
-fn flip_rows(a_u: f64, a_v: f64, b_u: f64, b_v: f64, low: u32, high: u32, cells: &mut [bool])
-    requires { (Parted a_v b_v low high) × (length cells.old ≡ 961) }
-    ensures { Holds false 961 cells.new (λ (k : ℕ). xor (get_or cells.old k false) (flips (by_rows k) (point a_u a_v) (point b_u b_v))) }
+fn flip_rows(edge: Segment, low: u32, high: u32, cells: &mut [bool; GRID_POINTS])
+    requires { Parted edge.a.v edge.b.v low high }
+    ensures { Holds false 961 cells.new (λ (k : ℕ). xor (get_or cells.old k false) (flips (by_rows k) edge.a edge.b)) }
 {
-    let mut count: u32 = 0;
-    let mut j = low;
-    while j < high {
-        let v = part(j + 1);
-        count = lines_below(count, (b_u - a_u) * (v - a_v) / (b_v - a_v) + a_u);
+    let mut count = 0;
+    for j in low..high {
+        count = lines_below(count, cut(edge, part(j + 1)));
         let from = 31 * (j as usize);
-        let to = from + 31;
-        flip_row(count, &mut cells[from..to]);
-        j += 1;
+        let to = from + count as usize;
+        flip(&mut cells[from..to]);
     }
 }
 
-// What the edge from b to a flips, when `below_a` rows are below a and `below_b` below b: the rows
-// between the two counts, and no others.
-fn flip_edge(a_u: f64, a_v: f64, below_a: u32, b_u: f64, b_v: f64, below_b: u32, cells: &mut [bool])
-    requires { (Below a_v below_a) × (Below b_v below_b) × (length cells.old ≡ 961) }
-    ensures { Holds false 961 cells.new (λ (k : ℕ). xor (get_or cells.old k false) (flips (by_rows k) (point a_u a_v) (point b_u b_v))) }
+// What the edge from b to a flips: the rows between those below b and those below a, and no others.
+fn flip_edge(a: Counted, b: Counted, cells: &mut [bool; GRID_POINTS])
+    ensures { Holds false 961 cells.new (λ (k : ℕ). xor (get_or cells.old k false) (flips (by_rows k) a.point b.point)) }
 {
-    if below_a < below_b {
-        flip_rows(a_u, a_v, b_u, b_v, below_a, below_b, cells);
+    let edge = Segment {
+        a: a.point,
+        b: b.point,
+    };
+    if a.below < b.below {
+        flip_rows(edge, a.below, b.below, cells);
     } else {
-        flip_rows(a_u, a_v, b_u, b_v, below_b, below_a, cells);
+        flip_rows(edge, b.below, a.below, cells);
     }
 }
 
 // Flips each cell whose grid point is inside the ring, row after row.
-fn flip_cells(ring: &[f64], cells: &mut [bool])
-    requires { length cells.old ≡ 961 }
-    ensures { Holds false 961 cells.new (λ (k : ℕ). xor (get_or cells.old k false) (inside_of (pairs ring.now) (by_rows k))) }
+#[tactic(auto, using(crate::proofs::Flips::unflipped, crate::proofs::Insides::along_ring))]
+fn flip_cells(ring: &[Point], cells: &mut [bool; GRID_POINTS])
+    ensures { Holds false 961 cells.new (λ (k : ℕ). xor (get_or cells.old k false) (inside_of ring.now (by_rows k))) }
 {
-    let count = ring.len() / 2;
-    if count == 0 {
+    let Some(last) = ring.last() else {
         return;
-    }
-    let last = count - 1;
-    let mut b_u = ring[2 * last];
-    let mut b_v = ring[2 * last + 1];
-    let mut below_b = lines_below(0, b_v);
-    let mut k = 0;
-    while k < count {
-        let a_u = ring[2 * k];
-        let a_v = ring[2 * k + 1];
-        let below_a = lines_below(below_b, a_v);
-        flip_edge(a_u, a_v, below_a, b_u, b_v, below_b, cells);
-        b_u = a_u;
-        b_v = a_v;
-        below_b = below_a;
-        k += 1;
+    };
+    let mut b = Counted::from_near(0, *last);
+    for point in ring {
+        let a = Counted::from_near(b.below, *point);
+        flip_edge(a, b, cells);
+        b = a;
     }
 }
 
 // Flips, of the first 961 cells, each whose grid point is inside the ring. The cells stand row after row; those
 // behind them keep their contents, and a list of fewer stays as it is.
-pub fn flip_ring(ring: &[f64], cells: &mut [bool])
-    ensures { cells.new ≡ over (flipped_by (pairs ring.now) cells.old) cells.old }
+pub fn flip_ring(ring: &[Point], cells: &mut [bool])
+    ensures { cells.new ≡ over (flipped_by ring.now cells.old) cells.old }
 {
-    if cells.len() < GRID_POINTS {
-        return;
+    if let Some(front) = cells.first_chunk_mut::<GRID_POINTS>() {
+        flip_cells(ring, front);
     }
-    flip_cells(ring, &mut cells[..GRID_POINTS]);
 }

@@ -2,36 +2,33 @@
 -- where they were found to be equal.
 use mathlib.Core.Path.{◌≡◌, sym, subst, ◌∙◌}
 use mathlib.Core.Bool.{Bool, true}
-use Prim.Native.Nat.{ℕ, ◌+◌}
+use Prim.Native.Nat.{ℕ, ◌≤◌}
 use native.Mathlib.Omega.{arith}
 use lib.Ieee.{Float, eq}
+use Rattle.std.proofs.Common.{Option, Some, None, rules}
+use Rattle.std.specs.Option.{unwrap_or}
+use Rattle.points.specs.Columns.{columns_ahead, FirstHeld}
 use Rattle.points.specs.Turns.{keeps_order}
-use Rattle.coverage.specs.Lines.{turn_at, Turning}
 use Rattle.points.proofs.ColumnOrder.{holds}
-use Rattle.coverage.proofs.ServingTurns.{turning_between}
+use Rattle.points.proofs.Halving.{column_found}
+use Rattle.coverage.specs.Lines.{turn_at, Turning}
+use Rattle.coverage.proofs.ServingTurns.{turning_at, turning_between}
 use Rattle.coverage.proofs.column_turns.turned_until.Goals as goal
 
--- equal turns at two columns serve between them where they go with the order
-found : (period mid : Float) (i : ℕ) (by : Float) → by ≡ turn_at period mid i → (kept : Bool) → kept ≡ keeps_order period mid → kept ≡ true → (t : ℕ) (there : Float) → there ≡ turn_at period mid t → eq by there ≡ true → Turning period mid i t by
-found period mid i by is kept e h t there at q =
-    subst (Turning period mid i t) (sym is) (turning_between period mid (holds (keeps_order period mid) (sym e ∙ h)) i t (rw (← is, ← at) q))
+module _ (period mid : Float) (i : ℕ) (by : Float) (is : by ≡ turn_at period mid i) (top : i ≤ 31) (ordered : keeps_order period mid ≡ true) where
+  until_found : (answers : ℕ → Bool → Type 0) → ((m : ℕ) → answers m true → eq by (turn_at period mid m) ≡ true) → (found : Option ℕ) → FirstHeld answers (columns_ahead i) found → (i ≤ unwrap_or found i) × Turning period mid i (unwrap_or found i) by
+  until_found answers means None h = (omega arith, subst (Turning period mid i i) (sym is) (turning_at period mid i))
+  until_found answers means (Some m) h =
+      let ahead = column_found answers i m top h in
+      (ahead.up, subst (Turning period mid i m) (sym is) (turning_between period mid (holds (keeps_order period mid) ordered) i m (rw (← is) (means m ahead.held))))
 
-pub returns-then-by-turn_at : goal.returns-then-by-turn_at
-returns-then-by-turn_at c =
-    let y = c.args in
-    (c.requires.0, found y.period y.mid y.i y.by c.requires.1 _ c.keeps_order.ensures c.if-not-keeps_order.false 31 _ c.turn_at.ensures c.if-by-turn_at.true)
+pub returns-then-not-keeps_order : goal.returns-then-not-keeps_order
+returns-then-not-keeps_order c =
+    let x = c.args in
+    (omega arith, subst (Turning x.period x.mid x.i x.i) (sym c.requires.1) (turning_at x.period x.mid x.i))
 
-pub loop-step-init : goal.loop-step-init
-loop-step-init c = omega arith
-
-pub overflow_add-m : goal.overflow_add-m
-overflow_add-m c = omega arith
-
-pub returns-then-by-turn_at-2 : goal.returns-then-by-turn_at-2
-returns-then-by-turn_at-2 c =
-    let y = c.args in
-    let m = y.i + c.loop-step.step in
-    (omega arith, found y.period y.mid y.i y.by c.requires.1 _ c.keeps_order.ensures c.if-not-keeps_order.false m _ c.turn_at-then-m-lt31.ensures c.if-by-turn_at-2.true)
-
-pub loop-step-preserved : goal.loop-step-preserved
-loop-step-preserved c = omega arith
+pub returns : goal.returns
+returns c =
+    let x = c.args in
+    rw c.unwrap_or.ensures
+    (until_found x.period x.mid x.i x.by c.requires.1 c.requires.0 (sym c.keeps_order.ensures ∙ c.if-not-keeps_order.false) _ (λ m h. search rules) c.column_ahead.result c.column_ahead.ensures)

@@ -1,50 +1,42 @@
--- `coverage::covering::cover` marks the front of a list that has room for the grid: the fronts of the points and of the
--- ends are as long as the definition takes them.
-use mathlib.Core.Path.{◌≡◌, sym, ap, ap₂, ◌∙◌}
+-- `coverage::covering::cover` marks the front of a list that has room for the grid, by the winding where the chart is
+-- periodic, and nowhere else.
+use mathlib.Core.Path.{◌∙◌}
 use mathlib.Core.Bool.{Bool}
-use mathlib.Core.List.{List, ◌++◌}
-use Prim.Native.Nat.{ℕ, ◌≤◌}
+use mathlib.Core.List.{List}
+use Prim.Native.Nat.{ℕ}
 use native.Mathlib.Omega.{arith}
-use lib.Ieee.{Float}
-use lib.ListN.{length, take, drop}
-use lib.Seq.{length-take-le}
-use Rattle.answers.specs.Lists.{over}
-use Rattle.answers.proofs.Over.{over_short, over_room}
-use Rattle.points.specs.Grid.{grid_of, grid_point}
-use Rattle.points.proofs.GridOrder.{grid_length}
-use Rattle.frame.specs.Parts.{rings_from}
+use lib.ListN.{take, length-take}
+use Rattle.sheet.specs.Content.{Point}
+use Rattle.points.specs.Grid.{grid_point}
+use Rattle.inside.proofs.Cells.{grid_front, grid_short}
+use Rattle.frame.specs.Parts.{rings_from, rings_in}
 use Rattle.frame.specs.declared.framing.Frame.{Frame}
 use Rattle.coverage.specs.Coverage.{covered}
-use Rattle.coverage.proofs.Cutting.{Placed, front_size, cut_front}
 use Rattle.coverage.proofs.covering.cover.Goals as goal
 
-abbrev marks : Frame → ℕ → List ℕ → List Float → ℕ → ℕ → Bool
-marks f sense ends points i j = covered f sense (rings_from 0 ends points) (grid_point i j)
+abbrev marks : Frame → ℕ → List ℕ → List Point → ℕ → ℕ → Bool
+marks f sense ends points i j = covered f sense (rings_from 0 (take 256 ends) (take 2176 points)) (grid_point i j)
 
-front : (f : Frame) (sense : ℕ) (ends : List ℕ) (points : List Float) (n m : ℕ) (old ys : List Bool) → Placed (length points) 0 4352 n → Placed (length ends) 0 256 m → 961 ≤ length old → ys ≡ grid_of (marks f sense (take m ends) (take n points))
-    → ys ++ drop 961 old ≡ over (grid_of (marks f sense (take 256 ends) (take 4352 points))) old
-front f sense ends points n m old ys p q h e =
-    let new = grid_of (marks f sense (take 256 ends) (take 4352 points)) in
-    let size : length new ≡ 961 = grid_length (marks f sense (take 256 ends) (take 4352 points)) in
-    ap (λ (l : List Bool). l ++ drop 961 old) (e ∙ ap₂ (λ (es : List ℕ) (ps : List Float). grid_of (marks f sense es ps)) (cut_front ends 256 m q) (cut_front points 4352 n p))
-    ∙ sym (over_room new old (omega (arith, size)) ∙ ap (λ (k : ℕ). new ++ drop k old) size)
-
-pub returns-then-covered-lt-GRID_POINTS : goal.returns-then-covered-lt-GRID_POINTS
-returns-then-covered-lt-GRID_POINTS c =
+pub returns-in_default : goal.returns-in_default
+returns-in_default c =
     let x = c.args in
-    let new = marks x.f x.sense (take 256 x.ends.now) (take 4352 x.points.now) in
-    sym (over_short (grid_of new) x.covered.now (omega (arith, grid_length new)))
+    grid_short (marks x.f x.sense x.rings.ends.now x.rings.points.now) x.covered.now c.in_default.ensures.cases
 
-pub cover_grid-requires : goal.cover_grid-requires
-cover_grid-requires c =
-    let x = c.args in
-    let n = c.place-numbers in
-    let m = c.place-count in
-    (omega (arith, front_size x.points.now 4352 n.result n.ensures, n.ensures.1), omega (arith, front_size x.ends.now 256 m.result m.ensures, m.ensures.1), length-take-le 961 x.covered.now (omega arith))
+pub cover_by_winding-requires : goal.cover_by_winding-requires
+cover_by_winding-requires c =
+    let looked = c.looked_at-rings.ensures in
+    rw (looked.0, looked.1) (c.if-periodic.true, simp length-take (omega arith), simp length-take (omega arith))
 
-pub returns : goal.returns
-returns c =
+pub returns-then-periodic : goal.returns-then-periodic
+unfolding rings_in
+returns-then-periodic c =
     let x = c.args in
-    let n = c.place-numbers in
-    let m = c.place-count in
-    front x.f x.sense x.ends.now x.points.now n.result m.result x.covered.now _ n.ensures m.ensures (omega arith) c.cover_grid.ensures
+    let looked = c.looked_at-rings.ensures in
+    grid_front (marks x.f x.sense x.rings.ends.now x.rings.points.now) x.covered.now c.in-Some.ensures.cases (c.cover_by_winding.ensures ∙ rw (looked.0, looked.1))
+
+pub returns-else-periodic : goal.returns-else-periodic
+unfolding rings_in
+returns-else-periodic c =
+    let x = c.args in
+    let looked = c.looked_at-rings.ensures in
+    grid_front (marks x.f x.sense x.rings.ends.now x.rings.points.now) x.covered.now c.in-Some.ensures.cases (c.cover_by_inside.ensures ∙ rw (looked.0, looked.1))

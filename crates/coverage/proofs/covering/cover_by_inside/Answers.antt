@@ -6,7 +6,7 @@ use native.Mathlib.Omega.{arith}
 use Rattle.points.specs.Grid.{grid_point}
 use Rattle.inside.specs.Lines.{by_columns, in_rows}
 use Rattle.inside.proofs.Cells.{all_grid}
-use Rattle.frame.specs.Parts.{rings_from}
+use Rattle.frame.specs.Parts.{rings_in}
 use Rattle.coverage.specs.Coverage.{covered}
 use Rattle.coverage.proofs.Parity.{same_point, covered_inside}
 use Rattle.coverage.proofs.covering.cover_by_inside.Goals as goal
@@ -15,9 +15,9 @@ pub returns : goal.returns
 unfolding by_columns
 returns c =
     let f = c.args.f in
-    let rings = rings_from 0 c.args.ends.now c.args.points.now in
+    let rings = rings_in c.args.rings in
     let marks = c.mark_flips.ensures in
     all_grid false _ (λ i j. covered f c.args.sense rings (grid_point i j)) (record {
       count = marks.count;
-      is = λ k h. marks.is k h ∙ rw (c.flip_rings.ensures.is (in_rows k) (omega arith), same_point k h) (covered_inside f c.args.sense rings (by_columns k) c.requires.0);
+      is = λ k h. marks.is k h ∙ rw (c.flip_rings.ensures.is (in_rows k) (omega arith), same_point k h) (covered_inside f c.args.sense rings (by_columns k) c.requires);
     })

@@ -4,7 +4,7 @@ use mathlib.Core.Bool.{false}
 use Rattle.points.specs.Grid.{grid_point}
 use Rattle.inside.specs.Lines.{by_columns}
 use Rattle.inside.proofs.Cells.{all_grid}
-use Rattle.frame.specs.Parts.{rings_from}
+use Rattle.frame.specs.Parts.{rings_in}
 use Rattle.coverage.specs.Coverage.{covered}
 use Rattle.coverage.proofs.Parity.{covered_winding}
 use Rattle.coverage.proofs.covering.cover_by_winding.Goals as goal
@@ -13,7 +13,7 @@ pub returns : goal.returns
 unfolding by_columns
 returns c =
     let f = c.args.f in
-    let rings = rings_from 0 c.args.ends.now c.args.points.now in
+    let rings = rings_in c.args.rings in
     let marks = c.mark_windings.ensures in
     all_grid false _ (λ i j. covered f c.args.sense rings (grid_point i j)) (record {
       count = marks.count;

@@ -5,7 +5,6 @@ use mathlib.Core.Bool.{Bool, true, false, cond, xor}
 use native.Mathlib.Omega.{arith}
 use lib.IntN.{pos}
 use lib.ListN.{replicate, length-replicate, get_or-replicate}
-use Rattle.sheet.specs.Content.{pairs}
 use Rattle.points.specs.Grid.{grid_point}
 use Rattle.inside.specs.Inside.{inside_of}
 use Rattle.inside.specs.Lines.{by_columns, in_rows}
@@ -21,7 +20,7 @@ flipped_no false = refl
 pub returns : goal.returns
 unfolding by_columns
 returns c =
-    let ring = pairs c.args.ring.now in
+    let ring = c.args.ring.now in
     let flipped = flipped_cells ring (replicate 961 false) (length-replicate 961 false) c.flip_ring.ensures in
     let counts = c.count_cells.ensures in
     all_grid (pos 0) _ (λ i j. cond (inside_of ring (grid_point i j)) (pos 1) (pos 0)) (record {

@@ -2,7 +2,6 @@
 use mathlib.Core.Path.{◌∙◌}
 use lib.IntN.{pos, +ℤ_idl}
 use lib.ListN.{get_or-replicate}
-use Rattle.sheet.specs.Content.{pairs}
 use Rattle.points.specs.Grid.{grid_point}
 use Rattle.inside.specs.Lines.{by_columns}
 use Rattle.inside.proofs.Cells.{all_grid}
@@ -14,7 +13,7 @@ unfolding by_columns
 returns c =
     let x = c.args in
     let sums = c.add_ring.ensures in
-    all_grid (pos 0) _ (λ i j. winding_of x.period (grid_point i j) (pairs x.ring.now)) (record {
+    all_grid (pos 0) _ (λ i j. winding_of x.period (grid_point i j) x.ring.now) (record {
       count = sums.count;
-      is = λ k h. sums.is k h ∙ rw (c.clear.ensures, c.requires, get_or-replicate 961 k (pos 0) (pos 0) h) (+ℤ_idl _);
+      is = λ k h. sums.is k h ∙ rw (c.clear.ensures, c.told-crossings, get_or-replicate 961 k (pos 0) (pos 0) h) (+ℤ_idl _);
     })

@@ -3,6 +3,3 @@ use Rattle.inside.proofs.grid_lines.lowered.Given as goal
 
 abbrev pub invariant-loop-count : goal.invariant-loop-count
 invariant-loop-count l = NoneAfter l.x l.count
-
-abbrev pub decreases-loop-count : goal.decreases-loop-count
-decreases-loop-count l = l.count
