@@ -10,6 +10,8 @@ big_more s at i n b p q = rw (add-one, p, q)
 pub more_below : (i n b : ℕ) → n < 256 ^ i → b < 256 → n * 256 + b < 256 ^ (i + 1)
 more_below i n b h l = rw (add-one, pow-suc) (omega arith)
 
--- a number of at most eight bytes is a u64
-pub eight_fit : (i n : ℕ) → i ≤ 8 → n < 256 ^ i → n < 2 ^ 64
-eight_fit i n l h = let m : 256 ^ i ≤ 256 ^ 8 = pow-le-pow_right (lit< tt) l in omega arith
+-- behind fewer than eight bytes a u64 has room for one more
+pub seven_leave_room : (i : ℕ) → i < 8 → 256 ^ i ≤ 2 ^ 56
+seven_leave_room i l = let le : i ≤ 7 = omega arith in pow-le-pow_right (lit< tt) le
+
+pub ruleset one_byte_more = (big_more, more_below, seven_leave_room)

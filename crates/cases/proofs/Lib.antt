@@ -1,4 +1,4 @@
 -- Laws about the numbers and the lists of recorded calls.
 pub mod Bytes
-pub mod Heads
 pub mod Places
+pub mod Buffers

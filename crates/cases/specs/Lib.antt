@@ -1,4 +1,5 @@
 -- What the contracts of `cases` cite.
 pub mod BigEndian
+pub mod Lengths
 pub mod Places
 pub mod Record

@@ -6,23 +6,20 @@ ghost use Rattle.cases.specs.BigEndian.{big};
 fn byte_behind(s: &[u8], at: usize, i: usize) -> u8
     ensures { result ≡ slice_index s.now (at + i) }
 {
-    if s.len() <= at {
-        return 0;
-    }
-    if i < s.len() - at { s[at + i] } else { 0 }
+    let behind = s.get(at..).unwrap_or(&[]);
+    behind.get(i).copied().unwrap_or(0)
 }
 
 // The number of the k bytes from `at` on.
+#[tactic(auto, using(crate::proofs::Bytes::one_byte_more), unfolding(crate::specs::BigEndian::big))]
 fn number(s: &[u8], at: usize, k: usize) -> u64
     requires { k ≤ 8 }
     ensures value { result ≡ big s.now at k }
     ensures upper_bound { result < 256 ^ k }
 {
-    let mut n: u64 = 0;
-    let mut i = 0;
-    while i < k {
-        n = n * 256 + byte_behind(s, at, i) as u64;
-        i += 1;
+    let mut n = 0;
+    for i in 0..k {
+        n = n * 256 + u64::from(byte_behind(s, at, i));
     }
     n
 }

@@ -21,16 +21,16 @@ use Rattle.answers.proofs.Over.{over_room}
 use Rattle.answers.proofs.Papers.{paper_ok, paper_err, not_zero}
 use Rattle.answers.proofs.Settled.{settled_none, settled_refused}
 use Rattle.sheet.specs.Checks.{layout_checks, content_checks}
-use Rattle.sheet.specs.Content.{Point, pairs, flat}
+use Rattle.sheet.specs.Content.{Point, flat}
 use Rattle.sheet.specs.Layout.{sheet_of}
 use Rattle.sheet.proofs.Checked.{sheet_numbered}
 use Rattle.points.specs.Written.{written, written_point}
-use Rattle.points.proofs.Flat.{pairs_flat, length_flat}
+use Rattle.points.proofs.Flat.{length_flat}
 use Rattle.frame.specs.Framing.{moved_rings, frame, point_count, phase_wrong}
 use Rattle.frame.specs.Seam.{fitting, phase_checks}
 use Rattle.frame.specs.declared.framing.Frame.{Frame}
 use Rattle.frame.proofs.LaidOut.{is_fitting}
-use Rattle.frame.proofs.SheetFrame.{numbers_count, points_most, sheet_moved}
+use Rattle.frame.proofs.SheetFrame.{points_most, moved_points}
 use Rattle.search.specs.declared.candidate.Candidate.{Candidate}
 use Rattle.chart.specs.Chart.{answered, charted, chart_of, chart_checks, frame_checks, chosen, room_wrong}
 use Rattle.chart.specs.Stages.{Passed}
@@ -96,7 +96,7 @@ module _ (s : List ℕ) (phase : ℕ) (out : List Float) where
 -- ---- a sheet that reads
 
 -- lists for just its points and rings
-pub fits_of : (s : List ℕ) (n m : ℕ) → first (layout_checks s ++ content_checks (sheet_of s)) ≡ 0 → n ≡ 2 * point_count (sheet_of s) → m ≡ length (sheet_of s).rings → fitting (sheet_of s) n m ≡ true
+pub fits_of : (s : List ℕ) (n m : ℕ) → first (layout_checks s ++ content_checks (sheet_of s)) ≡ 0 → n ≡ point_count (sheet_of s) → m ≡ length (sheet_of s).rings → fitting (sheet_of s) n m ≡ true
 fits_of s n m reads p q = is_fitting (sheet_of s) n m p q (omega (arith, points_most s reads))
 
 -- ---- a call that passes the checks down to 9
@@ -113,16 +113,15 @@ module _ {s : List ℕ} {phase : ℕ} {out : List Float} (p : Passed s phase out
     none = left ∙ passes
 
     -- the points that are written
-    written_is : {xs : List Float} → xs ≡ flat (flatten (moved_rings (sheet_of s) phase)) → over (flat (map (written_point phase) (pairs xs))) out ≡ written_over s phase out (sheet_of s)
+    written_is : {ps : List Point} → ps ≡ flatten (moved_rings (sheet_of s) phase) → over (flat (map (written_point phase) ps)) out ≡ written_over s phase out (sheet_of s)
     unfolding written room_wrong
-    written_is {xs} x =
-        let rings = moved_rings (sheet_of s) phase in
-        let w = flat (map (written_point phase) (flatten rings)) in
-        let points : flat (map (written_point phase) (pairs xs)) ≡ w = ap (λ (ps : List Point). flat (map (written_point phase) ps)) (ap pairs x ∙ pairs_flat (flatten rings)) in
-        let long : length w ≡ 2 * point_count (sheet_of s) = length_flat (map (written_point phase) (flatten rings)) ∙ ap (λ (n : ℕ). 2 * n) (length-map (flatten rings) (written_point phase)) ∙ sym (length_flat (flatten rings)) ∙ ap (λ (rs : List (List Point)). length (flat (flatten rs))) (sheet_moved s phase) ∙ numbers_count s phase in
+    written_is {ps} x =
+        let w = flat (map (written_point phase) (flatten (moved_rings (sheet_of s) phase))) in
+        let points : flat (map (written_point phase) ps) ≡ w = ap (λ (qs : List Point). flat (map (written_point phase) qs)) x in
+        let long : length w ≡ 2 * point_count (sheet_of s) = length_flat (map (written_point phase) (flatten (moved_rings (sheet_of s) phase))) ∙ ap (λ (n : ℕ). 2 * n) (length-map (flatten (moved_rings (sheet_of s) phase)) (written_point phase) ∙ moved_points s phase) in
         ap (λ (ys : List Float). over ys out) points ∙ over_room w out (omega (arith, long, ltb-false (length out) (2 * point_count (sheet_of s)) p.room_right))
 
-    pub call_answered : {xs after : List Float} (v : Values) {f : Frame} {c : Candidate} → xs ≡ flat (flatten (moved_rings (sheet_of s) phase)) → after ≡ over (flat (map (written_point phase) (pairs xs))) out
+    pub call_answered : {ps : List Point} {after : List Float} (v : Values) {f : Frame} {c : Candidate} → ps ≡ flatten (moved_rings (sheet_of s) phase) → after ≡ over (flat (map (written_point phase) ps)) out
         → f ≡ frame (sheet_of s) phase → c ≡ chosen (sheet_of s) phase → values_numbers v ≡ answered f phase c → Called s phase out (Ok v) after
     call_answered v x a e d q =
         ap₂ charted

@@ -1,6 +1,6 @@
 -- Document 01, "Chart": the chart call, from the bytes of a sheet, the phase and the output list to the answer and the
 -- list's later contents.
-use Rattle.std.specs.Prelude.{Bool, false, not, cond, ℕ, ◌*◌, eqb, ltb, length, drop, Float}
+use Rattle.std.specs.Prelude.{Bool, false, not, cond, ℕ, ◌*◌, eqb, ltb, length, drop, Float, Option, Some, None}
 use mathlib.Core.List.{List, [], ◌∷◌, ◌++◌, map, foldl}
 use Rattle.std.specs.Float.{inf, binary64}
 use Rattle.std.specs.Float.Ieee.{add, sub, mul, lt}
@@ -31,10 +31,14 @@ normalised s phase = normalised_by (frame s phase) (moved_rings s phase)
 
 -- ---- rules 7 to 9 see the normalised rings, the frame and the sense, and nothing else
 
+-- P where the chart is periodic: rule 8 asks it of no other
+abbrev pub period_of : Frame → Option Float
+period_of f = cond f.periodic (Some f.period) None
+
 -- 8: "Clearance: least distance to a segment, from infinity"
 unfoldable pub clearance : Frame → List (List Point) → Point → Float
 unfolding nearer
-clearance f rings p = foldl (nearer f.periodic f.period p) (inf false) rings
+clearance f rings p = foldl (nearer (period_of f) p) (inf false) rings
 
 -- 9, over rule 6's grid
 unfoldable pub candidate : Frame → ℕ → List (List Point) → Candidate

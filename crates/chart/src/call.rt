@@ -6,22 +6,21 @@ ghost use Rattle.frame.specs.Framing.{point_count};
 ghost use Rattle.chart.specs.Chart.{answered, charted, chart_of};
 ghost use Rattle.chart.specs.Stages.{Passed};
 
-use crate::grid_point::{answered_u, answered_v, find};
+use crate::grid_point::{Found, find};
 use answers::{Answer, Refusal, Values};
-use frame::Frame;
-use search::Candidate;
-use sheet::{MOST_NUMBERS, SMALL_NUMBERS};
+use sheet::{MOST_POINTS, ORIGIN, Point, SMALL_POINTS};
 
 // The chosen grid point back in the chart, with its clearance and the count.
-fn answer(f: Frame, phase: u32, best: Candidate) -> Values
-    ensures { values_numbers result ≡ answered f phase best }
+fn values(found: Found, phase: u32) -> Values
+    ensures { values_numbers result ≡ answered found.frame phase found.best }
 {
+    let p = found.point(phase);
     Values {
-        x: answered_u(f, best),
-        y: answered_v(f, phase, best),
+        x: p.u,
+        y: p.v,
         z: 0.0,
-        clearance: best.clearance,
-        count: best.count,
+        clearance: found.best.clearance,
+        count: found.best.count,
     }
 }
 
@@ -30,19 +29,19 @@ fn answer(f: Frame, phase: u32, best: Candidate) -> Values
 fn chart_over(
     s: &[u8],
     phase: u32,
-    moved: &mut [f64],
+    moved: &mut [Point],
     ends: &mut [usize],
     points: &mut [f64],
 ) -> Answer
-    requires { Passed s.now phase points.old × (length moved.old ≡ 2 * point_count (sheet_of s.now)) × (length ends.old ≡ ring_count s.now) }
+    requires { Passed s.now phase points.old × (length moved.old ≡ point_count (sheet_of s.now)) × (length ends.old ≡ ring_count s.now) }
     ensures { charted (paper result) points.new ≡ chart_of s.now phase points.old }
 {
     let found = find(s, phase, moved, ends)?;
     points::write(phase, moved, points);
-    Ok(answer(found.frame, phase, found.best))
+    Ok(values(found, phase))
 }
 
-// The same, over lists of its own, of which the first has room for N numbers.
+// The same, over lists of its own, of which the first has room for N points.
 fn chart_within<const N: usize>(
     s: &[u8],
     phase: u32,
@@ -50,10 +49,10 @@ fn chart_within<const N: usize>(
     count: usize,
     points: &mut [f64],
 ) -> Answer
-    requires { Passed s.now phase points.old × (n ≡ 2 * point_count (sheet_of s.now)) × (count ≡ ring_count s.now) × (n ≤ N) × (N ≤ 4352) }
+    requires { Passed s.now phase points.old × (n ≡ point_count (sheet_of s.now)) × (count ≡ ring_count s.now) × (n ≤ N) × (N ≤ 2176) }
     ensures { charted (paper result) points.new ≡ chart_of s.now phase points.old }
 {
-    let mut moved = [0.0f64; N];
+    let mut moved = [ORIGIN; N];
     let mut ends = [0usize; sheet::MOST_RINGS];
     chart_over(s, phase, &mut moved[..n], &mut ends[..count], points)
 }
@@ -64,14 +63,14 @@ pub fn chart(s: &[u8], phase: u32, points: &mut [f64]) -> Answer
     ensures { charted (paper result) points.new ≡ chart_of s.now phase points.old }
 {
     frame::check(s, phase)?;
-    let n = frame::point_numbers(s);
-    if points.len() < n {
+    let n = frame::point_count(s);
+    if points.len() < 2 * n {
         return Err(Refusal::Room);
     }
     let count = sheet::byte_at(s, 7) as usize;
-    if n <= SMALL_NUMBERS {
-        chart_within::<SMALL_NUMBERS>(s, phase, n, count, points)
+    if n <= SMALL_POINTS {
+        chart_within::<SMALL_POINTS>(s, phase, n, count, points)
     } else {
-        chart_within::<MOST_NUMBERS>(s, phase, n, count, points)
+        chart_within::<MOST_POINTS>(s, phase, n, count, points)
     }
 }

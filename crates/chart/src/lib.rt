@@ -7,7 +7,4 @@ mod choice;
 mod grid_point;
 
 pub use call::chart;
-// `turned_u` and `turned_v` are older names of `answered_u` and `answered_v`.
-pub use grid_point::{
-    Found, answered_u, answered_u as turned_u, answered_v, answered_v as turned_v, find,
-};
+pub use grid_point::{Found, find};

@@ -1,4 +1,3 @@
 -- What the contracts of `facepoint` cite.
 pub mod Answer
 pub mod Line
-pub mod Read

@@ -9,11 +9,12 @@ ghost use Rattle.text.specs.Page.{IsPrefixLen};
 ghost use Rattle.answers.specs.Answers.{paper, is_point};
 ghost use Rattle.facepoint.specs.Answer.{answer_to};
 ghost use Rattle.facepoint.specs.Line.{line_of};
-ghost use Rattle.facepoint.specs.Read.{Within};
 
 use answers::Answer;
+use cases::read_full;
 use std::io::{self, Read};
 use std::process::ExitCode;
+use thiserror::Error;
 
 // The longest input that is taken for a sheet.
 const MOST_BYTES: usize = 65536;
@@ -24,29 +25,17 @@ const ROOM: usize = 65537;
 // The longest line: a point whose count has ten digits.
 const LINE: usize = 81;
 
-// How many bytes the input has, as far as the buffer goes; or why a read failed.
-#[derive(Clone, Copy)]
-enum Input {
-    Bytes(usize),
-    Failed(io::Error),
-}
-
-// Reads to the end of the input, or until the buffer is full.
-fn read_input<R: Read>(reader: &mut R, buffer: &mut [u8]) -> Input
-    ensures { Within result buffer.new }
-{
-    let mut n = 0;
-    while n < buffer.len() {
-        match reader.read(&mut buffer[n..]) {
-            Ok(0) => break,
-            Ok(more) => n += more,
-            Err(error) => return Input::Failed(error),
-        }
-    }
-    Input::Bytes(n)
+// What failed, and why.
+#[derive(Clone, Copy, Debug, Error)]
+enum Failure {
+    #[error("standard input: {0}")]
+    Input(io::Error),
+    #[error("standard output: {0}")]
+    Output(io::Error),
 }
 
 // The plane pick of the input, or 1 where it is too long.
+#[tactic(auto, using(crate::proofs::Lines::refused), unfolding(crate::specs::Answer::answer_to))]
 fn answer_to(input: &[u8]) -> Answer
     ensures { (paper result ≡ answer_to input.now) × (is_point result ≡ eqb (paper result).status 0) }
 {
@@ -57,6 +46,7 @@ fn answer_to(input: &[u8]) -> Answer
 }
 
 // Puts an answer's line at the start of the page, which has room for the longest.
+#[tactic(auto, using(crate::proofs::Lines::line_first), unfolding(crate::specs::Line::line_of))]
 fn put_line(answer: Answer, page: &mut [u8]) -> usize
     requires { length page.old ≡ 81 }
     ensures prefix_len { IsPrefixLen result page.new }
@@ -76,20 +66,19 @@ fn print_line(rt: &impl Print, answer: Answer) -> io::Result<()> {
     rt.write_all(&page[..n])
 }
 
-// Says on standard error what failed, and why.
-fn fail(rt: &impl Eprint, what: &str, error: io::Error) -> ExitCode {
-    let _ = eprintln!(rt; "facepoint: {what}: {error}");
-    ExitCode::FAILURE
+// Reads the sheet and prints the answer's line.
+fn run<R: Read>(rt: &impl Print, input: &mut R) -> Result<(), Failure> {
+    let mut buffer = [0u8; ROOM];
+    let n = read_full(input, &mut buffer).map_err(Failure::Input)?;
+    print_line(rt, answer_to(&buffer[..n])).map_err(Failure::Output)
 }
 
 fn main(rt: HostRuntime) -> ExitCode {
-    let mut buffer = [0u8; ROOM];
-    let input = read_input(&mut rt.stdin(), &mut buffer);
-    match input {
-        Input::Bytes(n) => match print_line(&rt, answer_to(&buffer[..n])) {
-            Ok(()) => ExitCode::SUCCESS,
-            Err(error) => fail(&rt, "standard output", error),
-        },
-        Input::Failed(error) => fail(&rt, "standard input", error),
+    match run(&rt, &mut rt.stdin()) {
+        Ok(()) => ExitCode::SUCCESS,
+        Err(failure) => {
+            let _ = eprintln!(rt; "facepoint: {failure}");
+            ExitCode::FAILURE
+        }
     }
 }

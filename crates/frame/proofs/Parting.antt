@@ -30,7 +30,7 @@ packed rings = record { points_are = ap flatten (sym (rings_are rings)); ends_ar
 
 -- ---- a change of every point
 
-flatten_map : (g : Point → Point) (rings : List (List Point)) → map g (flatten rings) ≡ flatten (map (map g) rings)
+pub flatten_map : (g : Point → Point) (rings : List (List Point)) → map g (flatten rings) ≡ flatten (map (map g) rings)
 unfolding flatten
 flatten_map g [] = refl
 flatten_map g (ring ∷ rings) = map-append g ring (flatten rings) ∙ ap (λ (ps : List Point). map g ring ++ ps) (flatten_map g rings)

@@ -73,7 +73,7 @@ smaller_le_second a b n o = either (λ (x : Float). T (le x b)) (lt b a) b a (λ
 pub smaller_swap : (f : Format) (s a b : Float) → T (fits f s) → Clear f a → Clear f b → smaller_of (smaller_of s a) b ≡ smaller_of (smaller_of s b) a
 unfolding smaller_of
 smaller_swap f s a b h p q =
-    steps_swap lt a b s (lt_asym a b) (lt_trans f a b s p.held q.held h) (lt_trans f b a s q.held p.held h)
+    steps_swap lt a b s (lt_asym a b) (lt_trans a b s) (lt_trans b a s)
     (λ t u v w. same f a b p.held q.held (lt_left a s t) (lt_left b s u) p.unmarked q.unmarked v w)
 
 -- ---- larger-of
@@ -91,5 +91,5 @@ larger_keeps P a b p q = either P (lt a b) b a (λ t. q) (λ t. p)
 pub larger_swap : (f : Format) (s a b : Float) → T (fits f s) → Clear f a → Clear f b → larger_of (larger_of s a) b ≡ larger_of (larger_of s b) a
 unfolding larger_of
 larger_swap f s a b h p q =
-    steps_swap (λ (x y : Float). lt y x) a b s (lt_asym b a) (λ t u. lt_trans f s b a h q.held p.held u t) (λ t u. lt_trans f s a b h p.held q.held u t)
+    steps_swap (λ (x y : Float). lt y x) a b s (lt_asym b a) (λ t u. lt_trans s b a u t) (λ t u. lt_trans s a b u t)
     (λ t u v w. same f a b p.held q.held (lt_right s a t) (lt_right s b u) p.unmarked q.unmarked w v)

@@ -2,22 +2,24 @@
 -- be found, and left * 2 ^ place is twice what is left of n.
 -- A step finds the digit of weight w = 2 ^ (place - 1): it is 1 where (found + w) * (found + w) ≤ n, which is where 2 *
 -- found + w ≤ left. Assumes nothing.
-use Rattle.std.proofs.Common.{◌≡◌, ℕ, zero, suc, ◌+◌, ◌-◌, ◌*◌, ◌/◌, ◌%◌, ◌^◌, ◌<◌, ◌≤◌, Bool, true, false, cond, not, T, leb, sym, ap, ◌∙◌, subst, le_trans, le_of_suc-le-suc, lt_of_le_of_lt, add-zero, lt_irrefl, mul-le-mul_right, mod-eq_of_lt, mul_assoc, mul_comm, add-mul, lt_of_mul-lt-mul_right, mul-lt-mul_of_pos_right, one-mul, pow-suc, lt_of_not-le, mul-zero, zero-mul, mul-one, mul_right_comm, not-le_of_lt, le-add_left, arith, lit≤, leb→le, pow_pos}
+use Rattle.std.proofs.Common.{◌≡◌, ℕ, zero, suc, ◌+◌, ◌-◌, ◌*◌, ◌/◌, ◌%◌, ◌^◌, ◌<◌, ◌≤◌, Bool, true, false, not, T, leb, sym, ap, ◌∙◌, subst, le_trans, le_of_suc-le-suc, add-zero, lt_irrefl, mul_assoc, mul_comm, add-mul, lt_of_mul-lt-mul_right, mul-lt-mul_of_pos_right, one-mul, pow-suc, lt_of_not-le, mul-zero, zero-mul, mul-one, mul_right_comm, not-le_of_lt, le-add_left, arith, lit≤, leb→le, pow_pos}
 use native.Mathlib.Nat.{sub-zero}
+use Rattle.std.proofs.lemmas.Nat.{one_shl, shl_whole}
 use lib.Dec.{nleb→lt}
 use lib.Pow.{pow-lt}
+use Rattle.std.specs.Int.{from_bool}
 use Rattle.leaves.specs.Root.{whole_root}
-use Rattle.leaves.specs.Engine.{radicand, digit_of, Started}
 use Rattle.leaves.proofs.Squares.{square_add}
 use Rattle.leaves.proofs.WholeRoots.{root_is}
+
+-- 1 where the step can be taken off what is left, else 0
+abbrev pub digit_of : ℕ → ℕ → ℕ
+digit_of step left = from_bool (leb step left)
 
 pub record Found (n found left place : ℕ) : Type 0 where
   pub small : found + 2 ^ place ≤ 2 ^ 54
   pub exact : 2 * (found * found) + left * 2 ^ place ≡ 2 * n
   pub near : n < (found + 2 ^ place) * (found + 2 ^ place)
-
-pub started : (root places rest : ℕ) → Started root places rest → Found (radicand root places rest) root rest places
-started root places rest h = record { small = h.small; exact = omega (arith, h.whole); near = h.near }
 
 -- ---- bounds
 
@@ -99,13 +101,13 @@ stepped_none n found left place h l =
 pub stepped : (n found left place : ℕ) → Found n found left (suc place) → Stepped n found left place (found + found + 2 ^ place) (digit_of (found + found + 2 ^ place) left)
 stepped n found left place h = go (leb (found + found + 2 ^ place) left) (leb→le (found + found + 2 ^ place) left) (nleb→lt (found + found + 2 ^ place) left)
   where
-    go : (b : Bool) → (T b → found + found + 2 ^ place ≤ left) → (T (not b) → left < found + found + 2 ^ place) → Stepped n found left place (found + found + 2 ^ place) (cond b 1 0)
+    go : (b : Bool) → (T b → found + found + 2 ^ place ≤ left) → (T (not b) → left < found + found + 2 ^ place) → Stepped n found left place (found + found + 2 ^ place) (from_bool b)
     go true p q = stepped_one n found left place h (p tt)
     go false p q = stepped_none n found left place h (q tt)
 
 -- a digit that is shifted to its place loses nothing: at most 54 places are used
 pub shifted : (place digit : ℕ) → place < 54 → digit ≤ 1 → digit * 2 ^ place % 2 ^ 64 ≡ digit * 2 ^ place
-shifted place digit p d = mod-eq_of_lt (lt_of_le_of_lt (mul-le-mul_right (2 ^ place) d) (subst (λ (z : ℕ). z < 2 ^ 64) (sym (one-mul (2 ^ place))) (pow-lt {j = 64} (omega arith))))
+shifted place digit p d = shl_whole digit 1 place 64 (omega arith) (omega arith)
 
 pub few_places : (n found left place : ℕ) → Found n found left place → place ≤ 54
 few_places n found left place h = le_of_suc-le-suc (lt_of_not-le (λ (g : 55 ≤ place). not-le_of_lt (pow-lt {i = 54} g) (le_trans (le-add_left (2 ^ place) found) h.small)))
@@ -139,7 +141,7 @@ turn n found left (suc place) h p = subst (Turn n found left) (less place) (at p
           below = below;
           room = subst (λ (z : ℕ). found + z ≤ 2 ^ 54) (pow-suc 2 place) h.small;
           rest = left_small n found left (suc place) h;
-          weight = shifted place 1 below (lit≤ tt) ∙ one-mul (2 ^ place);
+          weight = one_shl place 64 (omega arith);
           step = stepped n found left place h;
         }
 

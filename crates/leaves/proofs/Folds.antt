@@ -3,6 +3,7 @@
 -- The steps need to commute only at the states that the fold can reach, which P holds of, and at the list's elements,
 -- which Q holds of.
 use Rattle.std.proofs.Common.{◌≡◌, ℕ, ◌+◌, ◌≤◌, T, List, [], ◌∷◌, ◌++◌, sym, refl, ap, ◌∙◌, subst, add-zero, add_assoc, zero-add, arith}
+pub use Rattle.std.specs.List.{AllByRecursion as All}
 use mathlib.Core.List.{foldl, Permᴰ}
 use native.Mathlib.Nat.{add_right_comm}
 use lib.Ieee.{Float, Format, fits}
@@ -10,10 +11,6 @@ use Rattle.leaves.proofs.Choices.{Clear, larger_keeps, larger_swap, smaller_keep
 use Rattle.leaves.specs.Bounds.{smaller_of, larger_of}
 
 -- ---- what holds of every element
-
-abbrev pub All : {A : Type 0} → (A → Type 0) → List A → Type 0
-All Q [] = Unit {0}
-All Q (x ∷ xs) = Q x × All Q xs
 
 pub all_of : {A : Type 0} (Q : A → Type 0) → ((a : A) → Q a) → (xs : List A) → All Q xs
 all_of Q h [] = tt

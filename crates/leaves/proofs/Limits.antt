@@ -11,8 +11,10 @@ use Rattle.leaves.specs.Hypot.{key_of, hypot_of_key, hypot_of, hypot3_of}
 use Rattle.leaves.specs.Root.{root_in, root_of}
 use Rattle.leaves.specs.Keys.{Key}
 use Rattle.leaves.proofs.Hypotenuses.{key_is, hypot_is, hypot_of_key_is, hypot_mono, hypot_by_key, hypot3_by_key, inf_key, hypot_of_inf}
-use Rattle.leaves.proofs.Monotone.{add_le, add_number, square_mono}
-use Rattle.leaves.proofs.Order.{le_left, le_lt, le→not_lt, lt_le_trans, lt_left, lt_trans, not_lt→le}
+use Rattle.leaves.proofs.Monotone.{add_le, square_mono}
+use Rattle.leaves.proofs.Patterns.{add_number}
+use Rattle.std.proofs.lemmas.Float.{lt_of_lt_of_le}
+use Rattle.leaves.proofs.Order.{le_left, le_lt, le→not_lt, lt_left, lt_trans, not_lt→le}
 use Rattle.leaves.proofs.RootOrder.{unsigned_not_negative}
 use Rattle.leaves.proofs.Scaling.{mul_by_zero}
 use Rattle.leaves.proofs.Signs.{square_positive}
@@ -31,28 +33,27 @@ held_first true b h = refl
 held_first false true h = absurd (h tt)
 held_first false false h = refl
 
-module _ (f : Format) (limit d x : Float) (L : T (fits f limit)) (D : T (fits f d)) (X : T (fits f x)) where
-  -- x is the less of the two
-  by_second : T (not (is_nan limit)) → T (lt x d) → not (lt limit x) ≡ (not (lt limit d) || le x limit)
-  by_second n l =
-      subst (λ (b : Bool). not (lt limit x) ≡ (not (lt limit d) || b)) (sym (le_lt x limit (lt_left x d l) n))
-      (held_second (not (lt limit x)) (not (lt limit d)) (λ t. not_T (lt limit x) (λ u. T_not (lt limit d) t (lt_trans f limit x d L X D u l))))
+-- x is the less of the two
+by_second : (limit d x : Float) → T (not (is_nan limit)) → T (lt x d) → not (lt limit x) ≡ (not (lt limit d) || le x limit)
+by_second limit d x n l =
+    subst (λ (b : Bool). not (lt limit x) ≡ (not (lt limit d) || b)) (sym (le_lt x limit (lt_left x d l) n))
+    (held_second (not (lt limit x)) (not (lt limit d)) (λ t. not_T (lt limit x) (λ u. T_not (lt limit d) t (lt_trans limit x d u l))))
 
-  -- it is not
-  by_first : T (not (is_nan d)) → T (not (lt x d)) → not (lt limit d) ≡ (not (lt limit d) || le x limit)
-  by_first n l =
-      held_first (not (lt limit d)) (le x limit)
-      (λ t. not_T (lt limit d) (λ u. T_not (lt limit x) (le→not_lt x limit t) (lt_le_trans f limit d x L D X u (not_lt→le x d (le_left x limit t) n l))))
+-- it is not
+by_first : (limit d x : Float) → T (not (is_nan d)) → T (not (lt x d)) → not (lt limit d) ≡ (not (lt limit d) || le x limit)
+by_first limit d x n l =
+    held_first (not (lt limit d)) (le x limit)
+    (λ t. not_T (lt limit d) (λ u. T_not (lt limit x) (le→not_lt x limit t) (lt_of_lt_of_le limit d x u (not_lt→le x d (le_left x limit t) n l))))
 
 -- the less of d and x is not above the limit where d or x is not: a NaN is passed over, and no value is above a NaN
 pub least_limit : (f : Format) (limit d x : Float) → T (fits f limit) → T (fits f d) → T (fits f x) → T (not (is_nan d)) → not (lt limit (smaller_of d x)) ≡ (not (lt limit d) || le x limit)
 unfolding smaller_of
-least_limit f limit d x L D X n = go (lt x d) (λ t. second limit L t) (by_first f limit d x L D X n)
+least_limit f limit d x L D X n = go (lt x d) (second limit) (by_first limit d x n)
   where
-    second : (limit : Float) → T (fits f limit) → T (lt x d) → not (lt limit x) ≡ (not (lt limit d) || le x limit)
-    second nan L t = unfold lt in refl
-    second (inf s) L t = by_second f (inf s) d x L D X (unfold is_nan in tt) t
-    second (fin s m e) L t = by_second f (fin s m e) d x L D X (unfold is_nan in tt) t
+    second : (limit : Float) → T (lt x d) → not (lt limit x) ≡ (not (lt limit d) || le x limit)
+    second nan t = unfold lt in refl
+    second (inf s) t = by_second (inf s) d x (unfold is_nan in tt) t
+    second (fin s m e) t = by_second (fin s m e) d x (unfold is_nan in tt) t
 
     go : (c : Bool) → (T c → not (lt limit x) ≡ (not (lt limit d) || le x limit)) → (T (not c) → not (lt limit d) ≡ (not (lt limit d) || le x limit)) → not (lt limit (cond c x d)) ≡ (not (lt limit d) || le x limit)
     go true h k = h tt
@@ -109,7 +110,7 @@ far_hypot limit k h a b c reaches near =
     let hypots = hypot_mono alone outer (key_is (hypot_of_key k) constants.plus_zero) (key_is (hypot_of a b) c) keys in
     let longer = subst (λ (d : Float). T (lt limit d)) (hypot_by_key (hypot_of_key k) constants.plus_zero) h.longer in
     T_not (lt limit (hypot_of_key outer)) (le→not_lt (hypot_of_key outer) limit short)
-    (lt_le_trans binary64 limit (hypot_of_key alone) (hypot_of_key outer) h.held (hypot_of_key_is alone (key_is (hypot_of_key k) constants.plus_zero)).held (hypot_of_key_is outer (key_is (hypot_of a b) c)).held longer hypots)
+    (lt_of_lt_of_le limit (hypot_of_key alone) (hypot_of_key outer) longer hypots)
 
 inf_alone : key_of (inf false) constants.plus_zero ≡ inf false
 unfolding key_of mul add

@@ -4,7 +4,7 @@
 -- product with or a quotient by a value above 0: each keeps the order
 -- because its exact fraction does, and a square where there is no sign. An infinity among the operands stays at its end
 -- of the order; a sum is a NaN only of two opposite infinities.
-use Rattle.std.proofs.Common.{◌≡◌, ℕ, ◌+◌, ◌-◌, ◌*◌, ◌<◌, ◌≤◌, Bool, true, false, cond, not, T, ltb, ℤ, pos, sym, refl, ap, ◌∙◌, subst, subst₂, true≢false, le_refl, mul_comm, mul-le-mul, mul-pos, arith, ltb→lt, nltb→le}
+use Rattle.std.proofs.Common.{◌≡◌, ℕ, ◌+◌, ◌-◌, ◌*◌, ◌<◌, ◌≤◌, Bool, true, false, cond, not, T, ltb, ℤ, pos, sym, refl, ap, ◌∙◌, subst, subst₂, true≢false, mul_comm, mul-le-mul, mul-pos, arith, ltb→lt, nltb→le}
 use native.Mathlib.Nat.{mul-mul-mul_comm}
 use lib.Ieee.{Float, nan, inf, fin, Format, up, down, round, neg, sum, add, sub, mul, div, is_nan, le}
 use lib.Ieee.Fits.{down_pos}
@@ -12,28 +12,13 @@ use lib.Ieee.Order.{round_mono}
 use lib.Ieee.Positive.{positive, num, den, den_pos}
 use lib.Ieee.Scale.{finite}
 use Rattle.leaves.proofs.Fractions.{Ordered, Sums, le→ordered, neg_mono, none_left, ordered→le, ordered_scaled, sums_ordered, sums_scaled}
+use Rattle.leaves.proofs.Patterns.{add_number, round_number}
 use Rattle.leaves.proofs.Order.{highest, le_left, le_right, le_self, lowest, neg_finite}
 use Rattle.leaves.proofs.Scaling.{div_of_finite, div_of_inf, mul_of_finite, mul_of_inf, size_above}
 use Rattle.leaves.proofs.Signs.{neg_round, round_of_none, round_sign}
 use Rattle.leaves.proofs.Values.{sign}
 
 -- ---- a signed fraction, rounded
-
-neg_number : (x : Float) → T (not (is_nan x)) → T (not (is_nan (neg x)))
-unfolding neg is_nan
-neg_number nan n = n
-neg_number (inf s) n = tt
-neg_number (fin s m e) n = tt
-
-pub round_number : (f : Format) (s : Bool) (a c : ℕ) → 0 < c → T (not (is_nan (round f s a c)))
-round_number f s a c C = go s
-  where
-    plain : T (not (is_nan (round f false a c)))
-    plain = le_left (round f false a c) (round f false a c) (round_mono f a c a c C C (le_refl (a * c)))
-
-    go : (s : Bool) → T (not (is_nan (round f s a c)))
-    go false = plain
-    go true = subst (λ (x : Float). T (not (is_nan x))) (sym (neg_round f false a c)) (neg_number (round f false a c) plain)
 
 le_by_signs : (x y : Float) → T (not (is_nan x)) → T (not (is_nan y)) → sign x ≡ true → sign y ≡ false → T (le x y)
 unfolding is_nan le
@@ -60,7 +45,7 @@ round_ordered f false true a c b d C D h =
     let p : a ≡ 0 = none_left a d D (omega arith) in
     let q : b ≡ 0 = none_left b c C (omega arith) in
     subst₂ (λ (x y : Float). T (le x y)) (sym (ap (λ (z : ℕ). round f false z c) p ∙ round_of_none f false c C)) (sym (ap (λ (z : ℕ). round f true z d) q ∙ round_of_none f true d D)) zeros_level
-round_ordered f true false a c b d C D h = le_by_signs (round f true a c) (round f false b d) (round_number f true a c C) (round_number f false b d D) (round_sign f true a c) (round_sign f false b d)
+round_ordered f true false a c b d C D h = le_by_signs (round f true a c) (round f false b d) (round_number f true a c) (round_number f false b d) (round_sign f true a c) (round_sign f false b d)
 round_ordered f true true a c b d C D h =
     subst₂ (λ (x y : Float). T (le x y)) (sym (neg_round f false a c)) (sym (neg_round f false b d)) (neg_mono (round f false b d) (round f false a c) (round_mono f b d a c D C h))
 
@@ -149,18 +134,6 @@ finite_number nan h = h
 finite_number (inf s) h = tt
 finite_number (fin s m e) h = tt
 
-pub add_number : (f : Format) (x c : Float) → T (not (is_nan x)) → T (finite c) → T (not (is_nan (add f x c)))
-unfolding is_nan
-add_number f nan c n h = absurd n
-add_number f (inf s) nan n h = absurd h
-add_number f (inf s) (inf t) n h = absurd h
-add_number f (inf s) (fin t k d) n h = unfold add in tt
-add_number f (fin s m e) nan n h = absurd h
-add_number f (fin s m e) (inf t) n h = absurd h
-add_number f (fin s m e) (fin t k d) n h =
-    let i = add_total f s m e t k d in
-    subst (λ (x : Float). T (not (is_nan x))) (sym i.is) (round_number f i.side i.size (down e * down d) (mul-pos (down_pos e) (down_pos d)))
-
 pub add_number_second : (f : Format) (c x : Float) → T (finite c) → T (not (is_nan x)) → T (not (is_nan (add f c x)))
 unfolding is_nan
 add_number_second f nan x h n = absurd h
@@ -190,7 +163,7 @@ sub_anti f c x y h l = add_mono_second f c (neg y) (neg x) h (neg_mono x y l)
 -- an operation that multiplies by i / j
 module _ (f : Format) (i j : ℕ) (J : 0 < j) (op : Float → Float) (ends : (s : Bool) → op (inf s) ≡ inf s) (is : (s : Bool) (m : ℕ) (e : ℤ) → op (fin s m e) ≡ round f s (m * up e * i) (down e * j)) where
   scaled_number : (s : Bool) (m : ℕ) (e : ℤ) → T (not (is_nan (op (fin s m e))))
-  scaled_number s m e = subst (λ (x : Float). T (not (is_nan x))) (sym (is s m e)) (round_number f s (m * up e * i) (down e * j) (mul-pos (down_pos e) J))
+  scaled_number s m e = subst (λ (x : Float). T (not (is_nan x))) (sym (is s m e)) (round_number f s (m * up e * i) (down e * j))
 
   scaled_mono : (x y : Float) → T (le x y) → T (le (op x) (op y))
   unfolding le is_nan
@@ -233,6 +206,6 @@ square_mono f (inf false) (fin t n d) p q l = absurd l
 square_mono f (fin true m e) y p q l = absurd (true≢false p)
 square_mono f (fin false m e) nan p q l = absurd l
 square_mono f (fin false m e) (inf true) p q l = absurd l
-square_mono f (fin false m e) (inf false) p q l = highest (mul f (fin false m e) (fin false m e)) (round_number f false (m * up e * (m * up e)) (down e * down e) (mul-pos (down_pos e) (down_pos e)))
+square_mono f (fin false m e) (inf false) p q l = highest (mul f (fin false m e) (fin false m e)) (round_number f false (m * up e * (m * up e)) (down e * down e))
 square_mono f (fin false m e) (fin true n d) p q l = absurd (true≢false q)
 square_mono f (fin false m e) (fin false n d) p q l = square_finite f m e n d l

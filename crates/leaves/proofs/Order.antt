@@ -1,15 +1,14 @@
 -- The order of the values that a format holds, of either sign. `place` numbers them in order, from one infinity to the
--- other, with one number for both zeros:
--- so `lt` and `le` are transitive, and of two values that are no NaN either one is less or the other is less or equal.
--- Two values that are neither a NaN nor -0, and neither of which is less than the other, are the same.
+-- other, with one number for both zeros. Two values that are neither a NaN nor -0, and neither of which is less than the other, are the same.
 -- What equals 0, or lies between a zero and its opposite, is a zero. So of two equal values that are no zeros each is
 -- the other.
-use Rattle.std.proofs.Common.{◌≡◌, ℕ, zero, suc, ◌+◌, ◌-◌, ◌*◌, ◌^◌, ◌<◌, ◌≤◌, Bool, true, false, not, ◌&&◌, ◌||◌, T, eqb, ltb, ◌≢◌, ℤ, pos, sym, refl, ap, ◌∙◌, subst, ap₂, inl, inr, zero-le, le_refl, le_of_lt, zero-lt-suc, add-mul, eq-zero-or-pos, add_comm, le_antisymm, lt_of_mul-lt-mul_right, mul-lt-mul_of_pos_right, mul-pos, zero-mul, arith, eqb→eq, ltb→lt, lt→ltb, nltb→le, T_not, pow_pos}
+use Rattle.std.proofs.Common.{◌≡◌, ℕ, zero, suc, ◌+◌, ◌-◌, ◌*◌, ◌^◌, ◌<◌, ◌≤◌, Bool, true, false, not, ◌||◌, T, eqb, ltb, ℤ, pos, sym, refl, ◌∙◌, subst, ap₂, inl, inr, zero-le, le_refl, le_of_lt, zero-lt-suc, add-mul, eq-zero-or-pos, le_antisymm, lt_of_mul-lt-mul_right, mul-lt-mul_of_pos_right, mul-pos, zero-mul, arith, eqb→eq, ltb→lt, lt→ltb, nltb→le, T_not, pow_pos}
+pub use Rattle.std.proofs.lemmas.Float.{lt_irrefl as float_lt_irrefl, le_refl as le_self, le_of_lt as lt→le, le_of_eq as eq→le, le_of_not-lt as not_lt→le, le_left, le_right, lt_trans, eq_flip as eq_sym}
+use Rattle.std.proofs.lemmas.Float.{lt_of_lt_of_le, lt_of_le_of_lt, le_trans, lt-or-eq}
 use mathlib.Core.Bool.{beq}
 use lib.Dec.{not_T}
-use lib.Arith.{le→nltb}
-use lib.Ieee.{Float, nan, inf, fin, Format, low, up, down, of_bits, neg, fits, is_nan, level, lt, eq, le}
-use lib.Ieee.Fits.{and_i, and_l, and_r, down_pos, eq→eqb, up_pos}
+use lib.Ieee.{Float, nan, inf, fin, Format, low, up, down, of_bits, neg, fits, is_nan, lt, eq, le}
+use lib.Ieee.Fits.{and_i, and_l, down_pos, eq→eqb, up_pos}
 use lib.Ieee.Scale.{finite, overflow}
 use Rattle.leaves.specs.Constants as constants
 use Rattle.leaves.proofs.Values.{same_units, sign, units_over, units_over_swapped, units_small, units_zero, units_in, zero_units}
@@ -36,18 +35,6 @@ same_test true true p q = refl
 same_test true false p q = absurd (p tt)
 same_test false true p q = absurd (q tt)
 same_test false false p q = refl
-
-or_l : (a b : Bool) → T a → T (a || b)
-or_l true b t = tt
-or_l false b t = absurd t
-
-or_r : (a b : Bool) → T b → T (a || b)
-or_r true b t = tt
-or_r false b t = t
-
-or_rest : (a b : Bool) → T (not a) → T (a || b) → T b
-or_rest true b n t = absurd n
-or_rest false b n t = t
 
 same_lt : (a b p q : ℕ) → (a < b → p < q) → (p < q → a < b) → ltb a b ≡ ltb p q
 same_lt a b p q h k = same_test (ltb a b) (ltb p q) (λ t. lt→ltb p q (h (ltb→lt a b t))) (λ t. lt→ltb a b (k (ltb→lt p q t)))
@@ -135,147 +122,41 @@ lt_place f (fin true m e) (fin true n d) h k u =
     ratio (n * up d * down e) (m * up e * down d) (units_in f (fin true n d)) (units_in f (fin true m e)) (2 ^ low f) (down e * down d) (pow_pos (low f)) (mul-pos (down_pos e) (down_pos d)) (units_over_swapped f true n d (down e) k) (units_over f true m e (down d) h)
     ∙ down_down (overflow f) (units_in f (fin true m e)) (units_in f (fin true n d)) (units_small f (fin true m e) h) (units_small f (fin true n d) k)
 
--- ---- `le` is not less the other way
+-- ---- the order's laws, most of them the library's
 
-pub less_nan : (x : Float) → lt x nan ≡ false
-unfolding lt
-less_nan nan = refl
-less_nan (inf s) = refl
-less_nan (fin s m e) = refl
-
-neqb→ne : (a b : ℕ) → T (not (eqb a b)) → a ≢ b
-neqb→ne a b n e = T_not (eqb a b) n (eq→eqb e)
-
--- of less, equal and greater just one holds
-just_one : (l e g : Bool) → (T l → T g → ⊥) → (T e → T g → ⊥) → (T (not l) → T (not e) → T g) → (l || (e && true)) ≡ not g
-just_one true e true p q r = absurd (p tt tt)
-just_one true e false p q r = refl
-just_one false true true p q r = absurd (q tt tt)
-just_one false true false p q r = refl
-just_one false false true p q r = refl
-just_one false false false p q r = absurd (r tt tt)
-
-positives : (a b : ℕ) → (ltb a b || (eqb a b && true)) ≡ not (ltb b a)
-positives a b = just_one (ltb a b) (eqb a b) (ltb b a) (λ t u. omega (arith, ltb→lt)) (λ t u. omega (arith, ltb→lt, eqb→eq)) (λ t u. omega (arith, nltb→le, neqb→ne, lt→ltb))
-
-negatives : (a b : ℕ) → (ltb b a || (eqb a b && true)) ≡ not (ltb a b)
-negatives a b = just_one (ltb b a) (eqb a b) (ltb a b) (λ t u. omega (arith, ltb→lt)) (λ t u. omega (arith, ltb→lt, eqb→eq)) (λ t u. omega (arith, nltb→le, neqb→ne, lt→ltb))
-
--- of two signs both sizes are 0, or one of the two is not
-both_zero : (a b : ℕ) → (eqb a b && eqb a 0) ≡ not (ltb 0 (b + a))
-both_zero a b =
-    same_test (eqb a b && eqb a 0) (not (ltb 0 (b + a)))
-    (λ t. le→nltb 0 (b + a) (omega (arith, eqb→eq a b (and_l (eqb a b) (eqb a 0) t), eqb→eq a 0 (and_r (eqb a b) (eqb a 0) t))))
-    (λ t. and_i (eqb a b) (eqb a 0) (eq→eqb {a = a} {b = b} (omega (arith, nltb→le))) (eq→eqb {a = a} {b = 0} (omega (arith, nltb→le))))
-
-or_not : (a b : Bool) → b ≡ not a → (a || b) ≡ true
-or_not true b e = refl
-or_not false b e = e
-
--- for values that are no NaN
-pub le_lt : (x y : Float) → T (not (is_nan x)) → T (not (is_nan y)) → le x y ≡ not (lt y x)
-unfolding le lt is_nan
-le_lt nan y h k = absurd h
-le_lt (inf s) nan h k = absurd k
-le_lt (inf true) (inf true) h k = refl
-le_lt (inf true) (inf false) h k = refl
-le_lt (inf false) (inf true) h k = refl
-le_lt (inf false) (inf false) h k = refl
-le_lt (inf true) (fin t n d) h k = refl
-le_lt (inf false) (fin t n d) h k = refl
-le_lt (fin s m e) nan h k = absurd k
-le_lt (fin s m e) (inf true) h k = refl
-le_lt (fin s m e) (inf false) h k = refl
-le_lt (fin false m e) (fin false n d) h k = positives (m * up e * down d) (n * up d * down e)
-le_lt (fin false m e) (fin true n d) h k = both_zero (m * up e * down d) (n * up d * down e)
-le_lt (fin true m e) (fin false n d) h k =
-    let a = m * up e * down d in
-    let b = n * up d * down e in
-    or_not (ltb 0 (a + b)) (eqb a b && eqb a 0) (both_zero a b ∙ ap (λ (x : ℕ). not (ltb 0 x)) (add_comm b a))
-le_lt (fin true m e) (fin true n d) h k = negatives (m * up e * down d) (n * up d * down e)
-
--- ---- what `lt` and `le` hold of is no NaN
-
+-- what `lt` holds of is no NaN
 pub lt_left : (x y : Float) → T (lt x y) → T (not (is_nan x))
-unfolding lt is_nan
-lt_left nan y h = h
-lt_left (inf s) y h = tt
-lt_left (fin s m e) y h = tt
+lt_left x y h = le_left x y (lt→le x y h)
 
 pub lt_right : (x y : Float) → T (lt x y) → T (not (is_nan y))
-unfolding lt is_nan
-lt_right x nan h = subst T (less_nan x) h
-lt_right x (inf s) h = tt
-lt_right x (fin s m e) h = tt
-
-pub le_left : (x y : Float) → T (le x y) → T (not (is_nan x))
-unfolding le is_nan
-le_left nan y h = h
-le_left (inf s) y h = tt
-le_left (fin s m e) y h = tt
-
-pub le_right : (x y : Float) → T (le x y) → T (not (is_nan y))
-unfolding le is_nan
-le_right nan nan h = h
-le_right (inf s) nan h = h
-le_right (fin s m e) nan h = h
-le_right x (inf s) h = tt
-le_right x (fin s m e) h = tt
-
-pub not_lt→le : (x y : Float) → T (not (is_nan x)) → T (not (is_nan y)) → T (not (lt x y)) → T (le y x)
-not_lt→le x y h k l = subst T (sym (le_lt y x k h)) l
+lt_right x y h = le_right x y (lt→le x y h)
 
 pub le→not_lt : (x y : Float) → T (le x y) → T (not (lt y x))
-le→not_lt x y l = subst T (le_lt x y (le_left x y l) (le_right x y l)) l
+le→not_lt x y l = not_T (lt y x) (λ h. float_lt_irrefl y (lt_of_lt_of_le y x y h l))
 
-pub lt→le : (x y : Float) → T (lt x y) → T (le x y)
-unfolding le
-lt→le x y l = or_l (lt x y) (eq x y) l
-
-pub eq→le : (x y : Float) → T (eq x y) → T (le x y)
-unfolding le
-eq→le x y e = or_r (lt x y) (eq x y) e
+-- for values that are no NaN `le` is not less the other way
+pub le_lt : (x y : Float) → T (not (is_nan x)) → T (not (is_nan y)) → le x y ≡ not (lt y x)
+le_lt x y h k = same_test (le x y) (not (lt y x)) (le→not_lt x y) (not_lt→le y x k h)
 
 pub eq→not_lt : (x y : Float) → T (eq x y) → T (not (lt y x))
 eq→not_lt x y e = le→not_lt x y (eq→le x y e)
 
 pub le_antisym : (x y : Float) → T (le x y) → T (le y x) → T (eq x y)
-unfolding le
-le_antisym x y p q = or_rest (lt x y) (eq x y) (le→not_lt y x q) p
-
-opposite : (a b : ℕ) → T (eqb a b && eqb a 0) → T (eqb b a && eqb b 0)
-opposite a b h =
-    let p : a ≡ b = eqb→eq a b (and_l (eqb a b) (eqb a 0) h) in
-    let q : a ≡ 0 = eqb→eq a 0 (and_r (eqb a b) (eqb a 0) h) in
-    and_i (eqb b a) (eqb b 0) (eq→eqb (sym p)) (eq→eqb (sym p ∙ q))
-
-level_sym : (s t : Bool) (a b : ℕ) → T (level s a t b) → T (level t b s a)
-level_sym true true a b h = and_i (eqb b a) true (eq→eqb (sym (eqb→eq a b (and_l (eqb a b) true h)))) tt
-level_sym false false a b h = and_i (eqb b a) true (eq→eqb (sym (eqb→eq a b (and_l (eqb a b) true h)))) tt
-level_sym true false a b h = opposite a b h
-level_sym false true a b h = opposite a b h
-
-pub eq_sym : (x y : Float) → T (eq x y) → T (eq y x)
-unfolding eq
-eq_sym nan y h = absurd h
-eq_sym (inf s) nan h = h
-eq_sym (inf true) (inf true) h = tt
-eq_sym (inf true) (inf false) h = h
-eq_sym (inf false) (inf true) h = h
-eq_sym (inf false) (inf false) h = tt
-eq_sym (inf s) (fin t n d) h = h
-eq_sym (fin s m e) nan h = h
-eq_sym (fin s m e) (inf t) h = h
-eq_sym (fin s m e) (fin t n d) h = level_sym s t (m * up e * down d) (n * up d * down e) h
+le_antisym x y p q = elim (lt-or-eq x y p) [ inl l ↦ absurd (float_lt_irrefl x (lt_of_lt_of_le x y x l q)) | inr e ↦ e ]
 
 pub lt_asym : (x y : Float) → T (lt x y) → T (lt y x) → ⊥
-lt_asym x y l = T_not (lt y x) (le→not_lt x y (lt→le x y l))
+lt_asym x y l m = float_lt_irrefl x (lt_trans x y x l m)
 
-pub float_lt_irrefl : (x : Float) → T (lt x x) → ⊥
-float_lt_irrefl x l = lt_asym x x l l
+-- the library's chains, as those cite them who hand on what the format holds
+module _ (f : Format) (x y z : Float) (h : T (fits f x)) (k : T (fits f y)) (j : T (fits f z)) where
+  pub lt_le_trans : T (lt x y) → T (le y z) → T (lt x z)
+  lt_le_trans p q = lt_of_lt_of_le x y z p q
 
-pub le_self : (x : Float) → T (not (is_nan x)) → T (le x x)
-le_self x h = not_lt→le x x h h (not_T (lt x x) (float_lt_irrefl x))
+  pub le_lt_trans : T (le x y) → T (lt y z) → T (lt x z)
+  le_lt_trans p q = lt_of_le_of_lt x y z p q
+
+  pub float_le_trans : T (le x y) → T (le y z) → T (le x z)
+  float_le_trans p q = le_trans x y z p q
 
 -- ---- the infinities are the ends
 
@@ -315,7 +196,7 @@ neg_finite (fin s m e) h = tt
 pub within_finite : (limit x : Float) → T (finite limit) → T (le (neg limit) x) → T (le x limit) → T (finite x)
 within_finite limit x h = between_finite (neg limit) x limit (neg_finite limit h) h
 
--- ---- chains, by the places
+-- ---- by the places
 
 module _ (f : Format) (x y : Float) (h : T (fits f x)) (k : T (fits f y)) where
   pub lt→place : T (lt x y) → place f x < place f y
@@ -326,22 +207,6 @@ module _ (f : Format) (x y : Float) (h : T (fits f x)) (k : T (fits f y)) where
 
   pub le→place : T (le x y) → place f x ≤ place f y
   le→place l = nltb→le (place f y) (place f x) (subst (λ (b : Bool). T (not b)) (lt_place f y x k h (le_right x y l)) (le→not_lt x y l))
-
-  pub place→le : T (not (is_nan x)) → T (not (is_nan y)) → place f x ≤ place f y → T (le x y)
-  place→le n o l = not_lt→le y x o n (subst (λ (b : Bool). T (not b)) (sym (lt_place f y x k h o)) (le→nltb (place f y) (place f x) l))
-
-module _ (f : Format) (x y z : Float) (h : T (fits f x)) (k : T (fits f y)) (j : T (fits f z)) where
-  pub lt_trans : T (lt x y) → T (lt y z) → T (lt x z)
-  lt_trans p q = place→lt f x z h j (lt_left x y p) (omega (arith, lt→place f x y h k p, lt→place f y z k j q))
-
-  pub lt_le_trans : T (lt x y) → T (le y z) → T (lt x z)
-  lt_le_trans p q = place→lt f x z h j (lt_left x y p) (omega (arith, lt→place f x y h k p, le→place f y z k j q))
-
-  pub le_lt_trans : T (le x y) → T (lt y z) → T (lt x z)
-  le_lt_trans p q = place→lt f x z h j (le_left x y p) (omega (arith, le→place f x y h k p, lt→place f y z k j q))
-
-  pub float_le_trans : T (le x y) → T (le y z) → T (le x z)
-  float_le_trans p q = place→le f x z h j (le_left x y p) (le_right y z q) (omega (arith, le→place f x y h k p, le→place f y z k j q))
 
 -- ---- one value to a place, but for the zeros
 
@@ -388,10 +253,6 @@ same f x y h k n o a b p q = same_place f x y h k n o a b (le_antisymm (le→pla
 
 -- ---- zeros
 
-zero_held : (f : Format) → T (fits f constants.plus_zero)
-unfolding fits of_bits
-zero_held f = tt
-
 -- what is equal to 0 is the zero of its sign
 pub zero_of_eq : (f : Format) (x : Float) → T (fits f x) → T (eq x constants.plus_zero) → x ≡ fin (sign x) 0 (pos 0)
 unfolding eq of_bits
@@ -423,4 +284,4 @@ same_nonzero f x y h k n p q =
     also : T (eq y constants.plus_zero) → ⊥
     also e =
         let z = constants.plus_zero in
-        T_not (eq x z) n (le_antisym x z (float_le_trans f x y z h k (zero_held f) p (eq→le y z e)) (float_le_trans f z y x (zero_held f) k h (eq→le z y (eq_sym y z e)) q))
+        T_not (eq x z) n (le_antisym x z (le_trans x y z p (eq→le y z e)) (le_trans z y x (eq→le z y (eq_sym y z e)) q))

@@ -2,6 +2,7 @@
 -- has one digit more than the format keeps, the bits h * hid + (R + 1) / 2
 -- are the root's. g + j is twice the exponent of the units that `root_in` counts in. Assumes nothing.
 use Rattle.std.proofs.Common.{◌≡◌, ℕ, zero, suc, ◌+◌, ◌-◌, ◌*◌, ◌/◌, ◌%◌, ◌^◌, ◌<◌, ◌≤◌, true, false, T, ℤ, sym, ap, ◌∙◌, subst, true≢false, le_trans, le_of_eq, lt_of_lt_of_le, lt_of_le_of_lt, lt_irrefl, mul-le-mul_right, mul_assoc, mul-pos, pow-suc, lt_of_not-le, zero-mul, mul_right_comm, not-le_of_lt, mul-div_cancel, arith, lit≤, pow_pos, pow_mono, pow-add, shl_lt}
+use native.Mathlib.Nat.{pow-succ'}
 use lib.Count.{count_leading_zeros, leading_top}
 use lib.Ieee.{Float, nan, inf, fin, Format, prec, low, hid, ones, up, down, of_bits, fits}
 use lib.Ieee.Bits.{of_bits-fits}
@@ -103,6 +104,15 @@ first_digits s lo hi =
 
 pub at_fraction : (r : Float) (a b places : ℕ) → a ≡ b → RootOfFraction r a places → RootOfFraction r b places
 at_fraction r a b places e h = subst (λ (z : ℕ). RootOfFraction r z places) e h
+
+-- an odd exponent gives one of its twos to the significand
+pub odd_root : (r : Float) (s e : ℕ) → (e % 2 ≡ 0 → ⊥) → RootOfFraction r (s * 2 * 2 ^ (2 * (e / 2))) 2096 → RootOfFraction r (s * 2 ^ e) 2096
+odd_root r s e h =
+    at_fraction r (s * 2 * 2 ^ (2 * (e / 2))) (s * 2 ^ e) 2096
+    (mul_assoc s 2 (2 ^ (2 * (e / 2))) ∙ ap (λ (z : ℕ). s * z) (sym (pow-succ' 2 (2 * (e / 2))) ∙ ap (λ (k : ℕ). 2 ^ k) (whole e h)))
+  where
+    whole : (e : ℕ) → (e % 2 ≡ 0 → ⊥) → suc (2 * (e / 2)) ≡ e
+    whole e h = omega arith
 
 -- num / 2 ^ places is num * 2 ^ j / 2 ^ (places + j)
 raised : (x : Float) (a places j : ℕ) → HasValue x false a (2 ^ places) → HasValue x false (a * 2 ^ j) (2 ^ (places + j))

@@ -2,7 +2,9 @@
 -- format's smallest values; and a value above zero is what its fields say.
 -- Assumes nothing.
 use Rattle.std.proofs.Common.{◌≡◌, ℕ, zero, suc, ◌+◌, ◌-◌, ◌*◌, ◌/◌, ◌%◌, ◌^◌, ◌<◌, ◌≤◌, Bool, true, false, cond, not, T, eqb, leb, pos, sym, refl, ap, ◌∙◌, subst, zero-le, lt_of_le_of_lt, lt_irrefl, mod-eq_of_lt, suc-mul, mul_comm, mul-pos, pow-suc, mul-one, arith, eqb→eq, ltb→lt, lt→ltb, pow_pos}
-use lib.Dec.{eqb_refl, nleb→lt, not_T}
+use Rattle.std.proofs.lemmas.Bool.{ne_eqb}
+use Rattle.std.proofs.lemmas.Float.{T_from_false}
+use lib.Dec.{eqb_refl, nleb→lt}
 use lib.Arith.{digits_div, digits_mod, digits_lt, lt→nleb}
 use lib.Ieee.{Float, nan, inf, fin, Format, prec, emax, low, hid, ones, top, odd, of_fields, of_bits, to_bits, lt, fits, is_nan, nan_bits, up, down}
 use lib.Ieee.Bits.{of_bits-to_bits, nan_bits_is, is_false}
@@ -19,12 +21,9 @@ prec_hid f = ap (λ (x : ℕ). 2 ^ x) (sym (go (prec f) (two f))) ∙ pow-suc 2 
 
 -- ---- from fields to a value
 
-ne_eqb_false : (a b : ℕ) → (a ≡ b → ⊥) → eqb a b ≡ false
-ne_eqb_false a b h = is_false (eqb a b) (not_T (eqb a b) (λ t. h (eqb→eq a b t)))
-
 normal_fields : (f : Format) (s : Bool) (x t : ℕ) → suc x < ones f → of_fields f s (suc x) t ≡ odd (prec f) s (hid f + t) x (low f)
 unfolding of_fields
-normal_fields f s x t h = ap (λ (b : Bool). cond b (cond (eqb t 0) (inf s) nan) (odd (prec f) s (hid f + t) x (low f))) (ne_eqb_false (suc x) (ones f) (λ e. lt_irrefl (ones f) (subst (λ (z : ℕ). z < ones f) e h)))
+normal_fields f s x t h = ap (λ (b : Bool). cond b (cond (eqb t 0) (inf s) nan) (odd (prec f) s (hid f + t) x (low f))) (ne_eqb (suc x) (ones f) (λ e. lt_irrefl (ones f) (subst (λ (z : ℕ). z < ones f) e h)))
 
 fields_of : (f : Format) (x t : ℕ) → t < hid f → x < suc (ones f) → of_bits f (x * hid f + t) ≡ of_fields f false x t
 unfolding of_bits
@@ -145,7 +144,7 @@ bits_of_lem : (f : Format) (b : ℕ) → T (above (of_bits f b)) → (b < top f)
 unfolding of_bits
 bits_of_lem f b h =
     let s : leb (top f) b ≡ false = signed f (leb (top f) b) (b % top f / hid f) (b % hid f) h in
-    let small : b < top f = nleb→lt (top f) b (subst (λ (z : Bool). T (not z)) (sym s) tt) in
+    let small : b < top f = nleb→lt (top f) b (T_from_false _ s) in
     let e : of_fields f (leb (top f) b) (b % top f / hid f) (b % hid f) ≡ of_fields f false (b / hid f) (b % hid f) =
     ap (λ (z : Bool). of_fields f z (b % top f / hid f) (b % hid f)) s ∙ ap (λ (z : ℕ). of_fields f false (z / hid f) (b % hid f)) (mod-eq_of_lt small) in
     (small, subst (λ (y : Float). Unpacked f y (b / hid f) (b % hid f)) (sym e) (of_fields_lem f (b / hid f) (b % hid f) (subst (λ (y : Float). T (above y)) e h)))

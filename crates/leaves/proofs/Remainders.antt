@@ -1,9 +1,11 @@
 -- The remainder by TAU, worked out by whole numbers. TAU is 7074237752028440 / 2 ^ 50, and so is every value from TAU
 -- on a whole number of 2 ^ -50ths; the remainder of the two numbers is the remainder's, and a value of the format, so
 -- nothing is rounded. A smaller value that is not negative is its own remainder, and a negative one's has its sign.
-use Rattle.std.proofs.Common.{◌≡◌, ℕ, suc, ◌+◌, ◌-◌, ◌*◌, ◌/◌, ◌%◌, ◌^◌, ◌<◌, ◌≤◌, Bool, true, false, not, T, ℤ, pos, negsuc, refl, sym, ap, ◌∙◌, subst, lt_of_lt_of_le, le_trans, mul_assoc, mul-pos, mul-lt-mul_of_pos_right, mul-le-mul_right, mul-le-mul_left, lt_of_mul-lt-mul_right, mod-lt, mod-eq_of_lt, arith, lt→ltb, ltb→lt, nltb→le, lit<, lit≤, pow_pos, pow_mono, pow-add}
-use native.Mathlib.Nat.{div-add-mod, mul-add-mod_self_left, eq_of_mul-eq-mul_right, le_of_mul-le-mul_right}
-use lib.Arith.{le→nltb}
+use Rattle.std.proofs.Common.{◌≡◌, ℕ, suc, ◌+◌, ◌-◌, ◌*◌, ◌/◌, ◌%◌, ◌^◌, ◌<◌, ◌≤◌, Bool, true, false, not, T, ℤ, pos, negsuc, refl, sym, ap, ◌∙◌, subst, lt_of_lt_of_le, le_trans, mul_assoc, mul-pos, mul-lt-mul_of_pos_right, mul-le-mul_right, mul-le-mul_left, lt_of_mul-lt-mul_right, mod-lt, mod-eq_of_lt, arith, lt→ltb, ltb→lt, nltb→le, T_not, lt_of_not-le, mul-div_cancel, add-zero, add-one, pow-suc, lit<, lit≤, pow_pos, pow_mono, pow-add}
+use native.Mathlib.Nat.{mul-mod_left, eq_of_mul-eq-mul_right, le_of_mul-le-mul_right}
+use Rattle.std.proofs.lemmas.Float.{T_from_true, T_from_false}
+use Rattle.std.proofs.lemmas.Nat.{mul-mod_first}
+use lib.Arith.{le→nltb, mod-mul}
 use lib.Pow.{shl_lt}
 use lib.Ieee.{Float, nan, inf, fin, Format, binary64, emax, low, up, down, round, neg, div, rem, lt, le, of_int, fits, of_bits, to_bits}
 use lib.Ieee.Exact.{HasValue, round_exact}
@@ -24,23 +26,11 @@ tau_parts = 7074237752028440
 -- ---- remainders of whole numbers
 
 mod_scaled : (a b k : ℕ) → 0 < b → 0 < k → a * k % (b * k) ≡ a % b * k
-mod_scaled a b k B K =
-    ap (λ (x : ℕ). x % (b * k)) whole
-    ∙ mul-add-mod_self_left (b * k) (a / b) (a % b * k)
-    ∙ mod-eq_of_lt (mul-lt-mul_of_pos_right (mod-lt a B) K)
-  where
-    spread : (b q r k : ℕ) → (b * q + r) * k ≡ b * k * q + r * k
-    spread b q r k = omega arith
+mod_scaled a b k B K = mod-mul (a * k) B K ∙ rw (mul-div_cancel a K, mul-mod_left a k) (add-zero (a % b * k))
 
-    whole : a * k ≡ b * k * (a / b) + a % b * k
-    whole = ap (λ (x : ℕ). x * k) (sym (div-add-mod a b)) ∙ spread b (a / b) (a % b) k
-
--- the remainder of twice a number is that of twice its remainder
-pub mod_doubled : (a n : ℕ) → a % n * 2 % n ≡ a * 2 % n
-mod_doubled a n = sym (ap (λ (x : ℕ). x * 2 % n) (sym (div-add-mod a n)) ∙ ap (λ (x : ℕ). x % n) (spread n (a / n) (a % n)) ∙ mul-add-mod_self_left n (a / n * 2) (a % n * 2))
-  where
-    spread : (n q r : ℕ) → (n * q + r) * 2 ≡ n * (q * 2) + r * 2
-    spread n q r = omega arith
+-- one doubling more, reduced
+pub doubled : (a k n : ℕ) → n ≡ a * 2 ^ k % tau_parts → n * 2 % tau_parts ≡ a * 2 ^ (k + 1) % tau_parts
+doubled a k n e = rw (e, add-one, pow-suc, ← mul_assoc) (mul-mod_first (a * 2 ^ k) 2 tau_parts)
 
 -- ---- a value from TAU on
 
@@ -227,36 +217,32 @@ rem_small s m e h less =
     shift : (a d k : ℕ) → a * k * d ≡ a * (d * k)
     shift a d k = omega arith
 
-less_than : (p q : ℕ) → (q ≤ p → ⊥) → p < q
-less_than p q h = omega arith
-
-clash : (b : Bool) → T b → T (not b) → ⊥
-clash true t n = n
-clash false t n = t
-
 below_tau : (x : Float) → T (fits binary64 x) → T (not (lt x plus_zero)) → T (not (le tau_value x)) → rem binary64 x tau_value ≡ x
 unfolding lt le of_bits
 below_tau nan h z b = unfold rem in refl
 below_tau (inf true) h z b = absurd z
 below_tau (inf false) h z b = absurd b
-below_tau (fin false m e) h z b = rem_small false m e h (less_than (m * up e * 2 ^ 47) (884279719003555 * 1 * down e) (λ q. clash (le tau_value (fin false m e)) (ordered→le false 884279719003555 (negsuc 46) false m e q) b))
+below_tau (fin false m e) h z b = rem_small false m e h (lt_of_not-le (λ q. T_not (le tau_value (fin false m e)) b (ordered→le false 884279719003555 (negsuc 46) false m e q)))
 below_tau (fin true m e) h z b = rem_small true m e h (none (m * up e) (down e) (down_pos e) (nltb→le 0 (m * up e * 1 + 0 * 2 ^ 0 * down e) z))
   where
     none : (a d : ℕ) → 0 < d → a * 1 + 0 * 2 ^ 0 * d ≤ 0 → a * 2 ^ 47 < 884279719003555 * 1 * d
     none a d D h = omega arith
 
-pub rem_below_tau : (x : Float) → T (fits binary64 x) → T (not (lt x plus_zero)) → T (not (le tau x)) → rem binary64 x tau ≡ x
-rem_below_tau x h z b = ap (rem binary64 x) tau_is ∙ below_tau x h z (subst (λ (y : Float). T (not (le y x))) tau_is b)
+pub rem_below_tau : (x : Float) → fits binary64 x ≡ true → T (not (lt x plus_zero)) → le tau x ≡ false → rem binary64 x tau ≡ x
+rem_below_tau x h z b = ap (rem binary64 x) tau_is ∙ below_tau x (T_from_true _ h) z (subst (λ (y : Float). T (not (le y x))) tau_is (T_from_false _ b))
 
 -- ---- the sign
 
-pub neg_not_below : (x : Float) → T (lt x plus_zero) → T (not (lt (neg x) plus_zero))
+neg_below : (x : Float) → T (lt x plus_zero) → T (not (lt (neg x) plus_zero))
 unfolding lt of_bits neg
-neg_not_below nan h = absurd h
-neg_not_below (inf true) h = tt
-neg_not_below (inf false) h = absurd h
-neg_not_below (fin true m e) h = le→nltb (m * up e * 1) (0 * 2 ^ 0 * down e) (omega arith)
-neg_not_below (fin false m e) h = absurd (omega (arith, ltb→lt (m * up e * 1) (0 * 2 ^ 0 * down e) h))
+neg_below nan h = absurd h
+neg_below (inf true) h = tt
+neg_below (inf false) h = absurd h
+neg_below (fin true m e) h = le→nltb (m * up e * 1) (0 * 2 ^ 0 * down e) (omega arith)
+neg_below (fin false m e) h = absurd (omega (arith, ltb→lt (m * up e * 1) (0 * 2 ^ 0 * down e) h))
+
+pub neg_not_below : (x : Float) → lt x plus_zero ≡ true → T (not (lt (neg x) plus_zero))
+neg_not_below x h = neg_below x (T_from_true _ h)
 
 neg_rem : (x : Float) → neg (rem binary64 (neg x) tau_value) ≡ rem binary64 x tau_value
 unfolding rem neg

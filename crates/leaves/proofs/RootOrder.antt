@@ -2,6 +2,7 @@
 -- it is -0 only of -0 and never negative. Here "no sign" is said of a NaN too.
 -- Assumes nothing.
 use Rattle.std.proofs.Common.{◌≡◌, ℕ, zero, suc, ◌+◌, ◌-◌, ◌*◌, ◌^◌, ◌<◌, ◌≤◌, Bool, true, false, cond, not, T, ℤ, pos, sym, refl, ◌∙◌, subst, true≢false, zero-le, le_trans, le_of_eq, lt_of_lt_of_le, lt_irrefl, mul-le-mul_right, zero-lt-suc, zero-mul, arith, lt→ltb, T_not, pow_pos}
+use lib.Arith.{add-le_cancel_left}
 use lib.Ieee.{Float, nan, inf, fin, Format, low, up, down, lt, le, fits, is_nan, round}
 use lib.Ieee.Bits.{is_true}
 use lib.Ieee.Exact.{HasValue}
@@ -60,9 +61,6 @@ root_mono_unsigned f (suc m) (suc n) e d p q u =
     subst (λ (z : Float). T (le z (root_in f y))) (sym (root_is_rounded f x p (some m e)))
     (subst (λ (z : Float). T (le (rounded f (units_in f x * 2 ^ (low f + 2))) z)) (sym (root_is_rounded f y q (some n d))) (rounded_mono f (units_in f x * 2 ^ (low f + 2)) (units_in f y * 2 ^ (low f + 2)) (mul-le-mul_right (2 ^ (low f + 2)) u)))
 
-cancel : (o a b : ℕ) → o + a ≤ o + b → a ≤ b
-cancel o a b h = omega arith
-
 both_none : (o a b : ℕ) → b < o → o + a ≤ o - b → (a ≡ 0) × (b ≡ 0)
 both_none o a b l h = (omega arith, omega arith)
 
@@ -83,7 +81,7 @@ root_mono f (fin false m e) (fin true n d) p q s h =
     subst (λ (w : Float). T (le w (root_in f (fin true n d)))) (sym (root_of_zero f false m e p z.0))
     (subst (λ (w : Float). T (le (fin false m e) w)) (sym (root_of_zero f true n d q z.1)) h)
 root_mono f (fin false m e) (fin false n d) p q s h =
-    root_mono_unsigned f m n e d p q (cancel (overflow f) (units_in f (fin false m e)) (units_in f (fin false n d)) (le→place f (fin false m e) (fin false n d) p q h))
+    root_mono_unsigned f m n e d p q (add-le_cancel_left (overflow f) (le→place f (fin false m e) (fin false n d) p q h))
 
 -- ---- the sign
 

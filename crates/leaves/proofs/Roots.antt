@@ -5,7 +5,7 @@
 -- and G the root in units. Assumes nothing.
 use Rattle.std.proofs.Common.{◌≡◌, ℕ, zero, suc, ◌+◌, ◌-◌, ◌*◌, ◌/◌, ◌%◌, ◌^◌, ◌<◌, ◌≤◌, Bool, true, false, not, T, ltb, ℤ, pos, sym, refl, ap, ◌∙◌, subst, inl, inr, true≢false, suc-le-suc, zero-le, le_trans, le_of_eq, le_refl, lt_of_lt_of_le, le_of_suc-le-suc, le-add_right, lt_of_le_of_lt, le_of_lt, add-le-add, lt_irrefl, zero-lt-suc, mul_assoc, mul_comm, add_comm, le_antisymm, eq-or-lt_of_le, mul-le-mul_left, mul-lt-mul_of_pos_right, mul-pos, pow-suc, lt_of_not-le, zero-add, mul-one, mul_right_comm, not-le_of_lt, le_of_mul-le-mul_right, sub-le, arith, lit≤, ltb→lt, nltb→le, pow_pos, pow_mono, pow-add}
 use native.Mathlib.Nat.{eq_of_mul-eq-mul_right, le-suc}
-use lib.Arith.{lt_of_le-ne}
+use lib.Arith.{lt_of_le-ne, add-lt_cancel_left}
 use lib.Pow.{pow-lt}
 use lib.Ieee.{Float, nan, inf, fin, is_nan, Format, binary32, binary64, prec, emax, low, up, down, round, lt, fits}
 use lib.Ieee.Exact.{HasValue, round_exact}
@@ -98,12 +98,9 @@ zero_held : (f : Format) → T (fits f (fin false zero (pos 0)))
 unfolding fits
 zero_held f = tt
 
-cancel : (o a b : ℕ) → o + a < o + b → a < b
-cancel o a b h = omega arith
-
 -- of two values without a sign the lesser has fewer units
 fewer : (f : Format) (m n : ℕ) (e d : ℤ) → T (fits f (fin false m e)) → T (fits f (fin false n d)) → T (lt (fin false m e) (fin false n d)) → units_in f (fin false m e) < units_in f (fin false n d)
-fewer f m n e d h k l = cancel (overflow f) (units_in f (fin false m e)) (units_in f (fin false n d)) (lt→place f (fin false m e) (fin false n d) h k l)
+fewer f m n e d h k l = add-lt_cancel_left (overflow f) (lt→place f (fin false m e) (fin false n d) h k l)
 
 unsigned_not_less : (m n : ℕ) (e d : ℤ) → T (lt (fin false m e) (fin true n d)) → ⊥
 unfolding lt

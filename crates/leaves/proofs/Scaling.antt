@@ -1,7 +1,8 @@
 -- Products with and quotients by a value that is finite and above 0. Such a value is what the tests of a program say of
 -- it. It leaves an infinity and every sign as they are, and makes of a finite
 -- value one fraction, which is rounded once. A zero stays the zero of its sign; a product with 0 is one.
-use Rattle.std.proofs.Common.{◌≡◌, ℕ, ◌*◌, ◌<◌, Bool, true, false, cond, T, eqb, ltb, ℤ, pos, refl, ap, ◌∙◌, zero-lt-suc, mul_comm, mul-pos, mul-zero, arith, eqb→eq, ltb→lt, lt→ltb}
+use Rattle.std.proofs.Common.{◌≡◌, ℕ, ◌*◌, ◌<◌, Bool, true, false, cond, T, eqb, ltb, ℤ, pos, refl, ap, ◌∙◌, zero-lt-suc, mul_comm, mul-pos, mul-zero, arith, ltb→lt, lt→ltb}
+use Rattle.std.proofs.lemmas.Bool.{ne_eqb}
 use lib.Ieee.{Float, nan, inf, fin, Format, up, down, of_bits, round, mul, div, unlike, lt}
 use lib.Ieee.Fits.{down_pos}
 use lib.Ieee.Positive.{positive, num, den, den_pos, first_pos, own_value, value_pos}
@@ -32,14 +33,10 @@ like true = refl
 like false = refl
 
 not_none : (n : ℕ) → T (ltb 0 n) → eqb n 0 ≡ false
-not_none n h = go (eqb n 0) (λ t. clash (ltb→lt 0 n h) (eqb→eq n 0 t))
+not_none n h = ne_eqb n 0 (λ e. clash (ltb→lt 0 n h) e)
   where
     clash : 0 < n → n ≡ 0 → ⊥
     clash l z = omega arith
-
-    go : (b : Bool) → (T b → ⊥) → b ≡ false
-    go true k = absurd (k tt)
-    go false k = refl
 
 pub mul_of_inf : (f : Format) (p : Float) → T (positive p) → (s : Bool) → mul f (inf s) p ≡ inf s
 unfolding mul

@@ -16,7 +16,8 @@ use Rattle.leaves.specs.Nearest.{gap, NearestWhole}
 use Rattle.leaves.specs.Round.{nearest_whole, round_in, round_of}
 use Rattle.leaves.proofs.Fractions.{Ordered, le→ordered, none_left, ordered_scaled}
 use Rattle.leaves.proofs.Magnitudes.{Most, round_most}
-use Rattle.leaves.proofs.Monotone.{round_number, round_ordered}
+use Rattle.leaves.proofs.Monotone.{round_ordered}
+use Rattle.leaves.proofs.Patterns.{round_number}
 use Rattle.leaves.proofs.Order.{highest, lowest}
 use Rattle.leaves.proofs.Packing.{prec_hid}
 use Rattle.leaves.proofs.Signs.{neg_round}
@@ -161,11 +162,11 @@ unfolding le round_in
 round_in_mono f nan y l = absurd l
 round_in_mono f (inf s) nan l = absurd l
 round_in_mono f (inf s) (inf t) l = l
-round_in_mono f (inf true) (fin t n d) l = lowest (round_in f (fin t n d)) (round_number f t (nearest_whole (n * up d) (down d)) 1 (zero-lt-suc 0))
+round_in_mono f (inf true) (fin t n d) l = lowest (round_in f (fin t n d)) (round_number f t (nearest_whole (n * up d) (down d)) 1)
 round_in_mono f (inf false) (fin t n d) l = absurd l
 round_in_mono f (fin s m e) nan l = absurd l
 round_in_mono f (fin s m e) (inf true) l = absurd l
-round_in_mono f (fin s m e) (inf false) l = highest (round_in f (fin s m e)) (round_number f s (nearest_whole (m * up e) (down e)) 1 (zero-lt-suc 0))
+round_in_mono f (fin s m e) (inf false) l = highest (round_in f (fin s m e)) (round_number f s (nearest_whole (m * up e) (down e)) 1)
 round_in_mono f (fin s m e) (fin t n d) l =
     let p = nearest_whole (m * up e) (down e) in
     let q = nearest_whole (n * up d) (down d) in

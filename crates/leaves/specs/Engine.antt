@@ -1,5 +1,5 @@
 -- What the private functions of src/square_root.rt promise each other. The contract of `root` names none of it.
-use Rattle.std.specs.Prelude.{◌≡◌, ℕ, ◌+◌, ◌-◌, ◌*◌, ◌/◌, ◌^◌, ◌<◌, ◌≤◌, false, cond, leb, Float}
+use Rattle.std.specs.Prelude.{◌≡◌, ℕ, ◌+◌, ◌-◌, ◌*◌, ◌/◌, ◌^◌, ◌<◌, ◌≤◌, false, Float}
 use Rattle.std.specs.Float.Ieee.Exact.{HasValue}
 use Rattle.leaves.specs.Root.{whole_root, root_of}
 use Rattle.leaves.specs.declared.square_root.RootDigits.{RootDigits}
@@ -20,10 +20,6 @@ pub record Started (root places rest : ℕ) : Type 0 where
   pub small : root + 2 ^ places ≤ 2 ^ 54
   pub whole : 2 * (rest * 2 ^ places / 2) ≡ rest * 2 ^ places
   pub near : radicand root places rest < (root + 2 ^ places) * (root + 2 ^ places)
-
--- 1 where the step can be taken off what is left, else 0
-abbrev pub digit_of : ℕ → ℕ → ℕ
-digit_of step left = cond (leb step left) 1 0
 
 abbrev pub root_digits_of : ℕ → RootDigits
 root_digits_of n = record { root = whole_root n; rest = n - whole_root n * whole_root n }

@@ -6,6 +6,7 @@ ghost use Rattle.leaves.specs.Hypot.{key_of, hypot_of_key, hypot_of, hypot3_of};
 use crate::square_root::root;
 
 // The key of a pair of differences: a x a + b x b, each operation rounded.
+#[tactic(auto, unfolding(crate::specs::Hypot::key_of))]
 pub fn key(a: f64, b: f64) -> f64
     ensures { result ≡ key_of a b }
 {
@@ -13,6 +14,7 @@ pub fn key(a: f64, b: f64) -> f64
 }
 
 // The hypotenuse of the pair that has the key k.
+#[tactic(auto, unfolding(crate::specs::Hypot::hypot_of_key))]
 pub fn hypot_of_key(k: f64) -> f64
     ensures { result ≡ hypot_of_key k }
 {
@@ -20,6 +22,7 @@ pub fn hypot_of_key(k: f64) -> f64
 }
 
 // The root of a x a + b x b, each operation rounded.
+#[tactic(auto, unfolding(crate::specs::Hypot::hypot_of))]
 pub fn hypot(a: f64, b: f64) -> f64
     ensures { result ≡ hypot_of a b }
 {
@@ -27,6 +30,7 @@ pub fn hypot(a: f64, b: f64) -> f64
 }
 
 // Three terms: hypot(hypot(a, b), c).
+#[tactic(auto, unfolding(crate::specs::Hypot::hypot3_of))]
 pub fn hypot3(a: f64, b: f64, c: f64) -> f64
     ensures { result ≡ hypot3_of a b c }
 {

@@ -1,4 +1,4 @@
-// Rounding to a whole number.
+// Rounding to a whole number. Document 01 has it worked out here, so `f64::round` is not called.
 ghost use Rattle.std.specs.Prelude.{◌≡◌, T, from_bits};
 ghost use Rattle.std.specs.Float.Ieee.{lt};
 ghost use Rattle.std.specs.Float.{binary64};

@@ -14,11 +14,12 @@ const TAU_PARTS: u64 = 7074237752028440; // TAU in 2^-50ths
 const PARTS: f64 = 1125899906842624.0; // 2^50, 4310000000000000
 
 // What is left of number * 2^doublings: the remainder is doubled, and reduced each time.
+#[tactic(auto, using(crate::proofs::Remainders::doubled))]
 fn parts_left(number: u64, doublings: u64) -> u64
     ensures { result ≡ number * 2 ^ doublings % 7074237752028440 }
 {
     let mut left = number % TAU_PARTS;
-    for step in 0..doublings {
+    for _step in 0..doublings {
         left = left * 2 % TAU_PARTS;
     }
     left
@@ -29,15 +30,16 @@ fn rest_from_tau(x: f64) -> f64
     requires { T (le tau x) }
     ensures { result ≡ rem binary64 x tau }
 {
-    let bits = f64::to_bits(x);
+    let bits = x.to_bits();
     let field = bits / HIDDEN;
     if field == 2047 {
-        return 0.0 / 0.0;
+        return f64::NAN;
     }
     parts_left(HIDDEN + bits % HIDDEN, field - 1025) as f64 / PARTS
 }
 
 // The remainder of an x that is not negative; of a NaN a NaN.
+#[tactic(auto, using(crate::proofs::Remainders::rem_below_tau))]
 fn rest_of_magnitude(x: f64) -> f64
     requires { T (not (lt x plus_zero)) }
     ensures { result ≡ rem binary64 x tau }
@@ -46,6 +48,7 @@ fn rest_of_magnitude(x: f64) -> f64
 }
 
 // x rem TAU, where rem is %.
+#[tactic(auto, using(crate::proofs::Remainders::neg_not_below, crate::proofs::Remainders::rem_neg))]
 pub(crate) fn rest(x: f64) -> f64
     ensures { result ≡ rem binary64 x tau }
 {

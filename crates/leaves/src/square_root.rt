@@ -1,4 +1,5 @@
-// The square root of IEEE 754, by binary digits.
+// The square root of IEEE 754, by binary digits. Document 01 has it worked out here, so the machine's (`f64::sqrt`) is
+// not called; the library's root of a whole number (`u128::isqrt`) takes three times as long.
 //
 // A finite x above 0 is unpacked to significand * 2^(2h) / 2^2096 with 2^52 <= significand < 2^54:
 // an odd exponent doubles the significand, a subnormal is shifted up first. The integer root R of
@@ -10,7 +11,7 @@
 ghost use Rattle.std.specs.Prelude.{◌≡◌, ◌-◌, ◌*◌, ◌^◌, ◌<◌, ◌≤◌, T};
 ghost use Rattle.std.specs.Float.Ieee.{lt};
 ghost use Rattle.leaves.specs.Constants.{plus_zero};
-ghost use Rattle.leaves.specs.Engine.{RootOfFraction, root_digits_of, radicand, digit_of, Started};
+ghost use Rattle.leaves.specs.Engine.{RootOfFraction, root_digits_of, radicand, Started};
 ghost use Rattle.leaves.specs.Root.{root_of};
 
 pub(crate) const HIDDEN: u64 = 0x10_0000_0000_0000; // 2^52, the weight of a normal number's leading digit
@@ -29,7 +30,7 @@ pub fn root(x: f64) -> f64
     if x > 0.0 {
         root_above_zero(x)
     } else if x < 0.0 {
-        0.0 / 0.0
+        f64::NAN
     } else {
         x
     }
@@ -40,7 +41,7 @@ fn root_above_zero(x: f64) -> f64
     requires { T (lt plus_zero x) }
     ensures { result ≡ root_of x }
 {
-    let bits = f64::to_bits(x);
+    let bits = x.to_bits();
     let field = bits / HIDDEN;
     let low = bits % HIDDEN;
     if field == 2047 {
@@ -58,11 +59,12 @@ fn root_of_subnormal(low: u64) -> f64
     requires small { low < 2 ^ 52 }
     ensures { RootOfFraction result low 1074 }
 {
-    let places = (u64::leading_zeros(low) - 11) as u64;
+    let places = (low.leading_zeros() - 11) as u64;
     root_of_scaled(low << places, 1022 - places)
 }
 
 // The root of significand * 2^exponent / 2^2096.
+#[tactic(auto, using(crate::proofs::PackedRoots::odd_root))]
 fn root_of_scaled(significand: u64, exponent: u64) -> f64
     requires large { 2 ^ 52 ≤ significand }
     requires small { significand < 2 ^ 53 }
@@ -92,18 +94,17 @@ fn root_of_even(significand: u64, half: u64) -> f64
 // to be found, `places` of them. left * 2^place is always twice what is left of the radicand. The
 // next digit, of weight w = 2^(place - 1), is 1 where (found + w) * (found + w) is not above the
 // radicand, that is where 2 * found + w <= left. The digit is a number that is multiplied and
-// shifted, not a branch: half of all digits would be guessed wrong.
+// shifted, not a branch: half of all digits would be guessed wrong. (What it begins from is three
+// numbers and no struct: they stand together in this one call.)
 fn digits(root: u64, places: u64, rest: u64) -> RootDigits
     requires { Started root places rest }
     ensures { result ≡ root_digits_of (radicand root places rest) }
 {
     let mut found = root;
     let mut left = rest;
-    let mut place = places;
-    while 0 < place {
-        place -= 1;
+    for place in (0..places).rev() {
         let step = found + found + (1 << place);
-        let digit = next_digit(step, left);
+        let digit = u64::from(step <= left);
         found += digit << place;
         left = (left - step * digit) * 2;
     }
@@ -111,11 +112,4 @@ fn digits(root: u64, places: u64, rest: u64) -> RootDigits
         root: found,
         rest: left / 2,
     }
-}
-
-// 1 where the step can be taken off what is left, else 0.
-fn next_digit(step: u64, left: u64) -> u64
-    ensures { result ≡ digit_of step left }
-{
-    if step <= left { 1 } else { 0 }
 }

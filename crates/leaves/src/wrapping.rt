@@ -5,7 +5,8 @@ ghost use Rattle.leaves.specs.Wrap.{rem_tau, wrap_of};
 use crate::constants::{PI, TAU};
 use crate::remainder::rest;
 
-// x rem TAU, where rem is %, plus TAU if negative: Rust's `rem_euclid` by TAU.
+// x rem TAU, where rem is %, plus TAU if negative: Rust's `rem_euclid` by TAU, which calls the C library's `fmod`.
+#[tactic(auto, unfolding(crate::specs::Wrap::rem_tau, crate::specs::Wrap::lifted))]
 pub fn rem_tau(x: f64) -> f64
     ensures { result ≡ rem_tau x }
 {
@@ -14,6 +15,7 @@ pub fn rem_tau(x: f64) -> f64
 }
 
 // ((v + PI + PI) rem TAU) - PI, where rem is %, plus TAU if negative.
+#[tactic(auto, unfolding(crate::specs::Wrap::wrap_of))]
 pub fn wrap(v: f64) -> f64
     ensures { result ≡ wrap_of v }
 {

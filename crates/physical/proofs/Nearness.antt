@@ -3,7 +3,8 @@
 -- is never above. No distance is -0, so the clearance is the same for every order of the rings.
 use mathlib.Core.Path.{◌≡◌, refl, sym, ap, ◌∙◌}
 use mathlib.Core.Bool.{Bool, true, false, not, ◌||◌}
-use mathlib.Core.List.{List, [], ◌∷◌, foldl, Permᴰ}
+use mathlib.Core.List.{List, [], ◌∷◌, map, foldl, Permᴰ}
+use Rattle.std.specs.List.{list_any}
 use lib.Dec.{T}
 use lib.Ieee.{Float, inf, binary64, fits, is_nan, lt}
 use lib.Ieee.Fits.{inf-fits}
@@ -84,6 +85,15 @@ module _ (limit : Float) (p : Place) where
 
   pub ring_none : {rings : List (List Place)} {whole : Bool} → rings ≡ [] → rings_near false rings ≡ whole → false ≡ whole
   ring_none e w = sym (ap (rings_near false) e) ∙ w
+
+  -- told by any of the rings, which come from other things
+  pub rings_any : {A : Type 0} (images : A → List Place) (xs : List A) → rings_near false (map images xs) ≡ list_any (λ (x : A). any_near limit p false (images x)) xs
+  rings_any {A = A} images [] = refl
+  rings_any {A = A} images (x ∷ xs) = by (any_near limit p false (images x)) (rings_any images xs)
+    where
+      by : (b : Bool) → rings_near false (map images xs) ≡ list_any (λ (y : A). any_near limit p false (images y)) xs → rings_near b (map images xs) ≡ (b || list_any (λ (y : A). any_near limit p false (images y)) xs)
+      by true h = ring_stays (map images xs)
+      by false h = h
 
 -- ---- the clearance
 

@@ -1,7 +1,7 @@
 -- Check 15 by the segments, told against its limit: below infinity the clearance is not above the limit where one of
 -- the segments is near; above any other limit no clearance is.
-use mathlib.Core.Path.{◌≡◌, sym, ap, subst, ◌∙◌}
-use mathlib.Core.Bool.{Bool, true, false, not}
+use mathlib.Core.Path.{◌≡◌, refl, sym, ap, subst, ◌∙◌}
+use mathlib.Core.Bool.{Bool, true, false, not, true≢false}
 use mathlib.Core.List.{List}
 use lib.Dec.{T}
 use lib.Ieee.{Float, inf, binary64, mul, lt, fits}
@@ -32,3 +32,13 @@ module _ (s : Sheet) (p : Place) (rings : List (List Place)) {limit : Float} (le
 
   pub close_always : lt limit (inf false) ≡ false → true ≡ too_close s p rings
   close_always e = sym (by_near false e ∙ ring_stays limit p rings)
+
+-- ---- a limit that a clearance can be above, and one that none can
+
+pub passable : (below : Bool) → false ≡ not below → below ≡ true
+passable true e = refl
+passable false e = absurd (true≢false (sym e))
+
+pub impassable : (below : Bool) → true ≡ not below → below ≡ false
+impassable true e = absurd (true≢false e)
+impassable false e = refl

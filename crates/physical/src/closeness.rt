@@ -4,23 +4,22 @@ ghost use mathlib.Core.List.{foldl};
 ghost use Rattle.sheet.specs.Layout.{sheet_of};
 ghost use Rattle.physical.specs.Images.{ring_images};
 ghost use Rattle.physical.specs.Physical.{too_close};
-ghost use Rattle.physical.specs.Stages.{Far, any_near};
+ghost use Rattle.physical.specs.Stages.{any_near};
 
 use crate::deviation::least_clearance;
-use crate::near_segments::{any_near, far_key, is_passable};
+use crate::near_segments::Reach;
 use space::Place;
 
 // Whether the distance from p to one of the segments of all rings' images is not above the limit. Images past
 // the list's end are none.
-fn any_ring_near(s: &[u8], limit: f64, far: f64, p: Place, images: &[f64]) -> bool
-    requires { Far limit far }
-    ensures { result ≡ foldl (any_near limit p) false (ring_images (sheet_of s.now).rings images.now) }
+fn any_ring_near(s: &[u8], reach: Reach, p: Place, images: &[f64]) -> bool
+    ensures { result ≡ foldl (any_near reach.limit p) false (ring_images (sheet_of s.now).rings images.now) }
 {
     let mut rest = images;
     for block in sheet::ring_blocks(s) {
         let count = 3 * sheet::COEDGE_POINTS * sheet::byte_at(block, 0) as usize;
         let (ring, behind) = rest.split_at(count.min(rest.len()));
-        if any_near(limit, far, p, ring) {
+        if reach.is_ring_near(p, ring) {
             return true;
         }
         rest = behind;
@@ -33,10 +32,8 @@ fn any_ring_near(s: &[u8], limit: f64, far: f64, p: Place, images: &[f64]) -> bo
 pub fn too_close(s: &[u8], p: Place, images: &[f64]) -> bool
     ensures { result ≡ too_close (sheet_of s.now) p (ring_images (sheet_of s.now).rings images.now) }
 {
-    let limit = least_clearance(s);
-    if is_passable(limit) {
-        any_ring_near(s, limit, far_key(limit), p, images)
-    } else {
-        true
+    match Reach::of(least_clearance(s)) {
+        Some(reach) => any_ring_near(s, reach, p, images),
+        None => true,
     }
 }

@@ -6,7 +6,6 @@
 mod closeness;
 mod deviation;
 mod near_segments;
-mod parts;
 mod plane_closeness;
 mod plane_points;
 

@@ -1,6 +1,6 @@
 // Rule 8 in space, held against a limit. A segment is told to be far by the key of two coordinates, and
 // only a near one costs roots.
-ghost use Rattle.std.specs.Prelude.{true, false, ◌≡◌};
+ghost use Rattle.std.specs.Prelude.{true, false, not, ◌≡◌, is_none, IfSome};
 ghost use Rattle.std.specs.Float.{inf};
 ghost use Rattle.std.specs.Float.Ieee.{lt};
 ghost use Rattle.space.specs.Places.{triples};
@@ -11,6 +11,7 @@ ghost use Rattle.physical.specs.Stages.{Far, is_near, any_near};
 use space::{Place, dot, minus, place_at};
 
 // One coordinate of p - a - t x d.
+#[tactic(auto, unfolding(crate::specs::Space::left))]
 fn left(from: f64, t: f64, d: f64) -> f64
     ensures { result ≡ left_of from t d }
 {
@@ -37,16 +38,9 @@ fn residual(p: Place, a: Place, b: Place) -> Place
     }
 }
 
-// Whether a clearance can be above the limit: it is at most infinity, from which the least distance starts.
-pub(crate) fn is_passable(limit: f64) -> bool
-    ensures { result ≡ lt limit (inf false) }
-{
-    limit < 1.0 / 0.0
-}
-
 // A key in x and y that is beyond the limit whatever z is: that of twice the limit, as long as rounding
 // leaves it above, else infinity.
-pub(crate) fn far_key(limit: f64) -> f64
+fn far_key(limit: f64) -> f64
     requires { lt limit (inf false) ≡ true }
     ensures { Far limit result }
 {
@@ -58,39 +52,61 @@ pub(crate) fn far_key(limit: f64) -> f64
     }
 }
 
-// Whether the distance from p to the segment from a to b is not above the limit. Where its key in x and y
-// reaches `far` it is above.
-pub(crate) fn is_near(limit: f64, far: f64, p: Place, a: Place, b: Place) -> bool
-    requires { Far limit far }
-    ensures { result ≡ is_near limit p (between a b) }
-{
-    let rest = residual(p, a, b);
-    let key = leaves::key(rest.x, rest.y);
-    if far <= key {
-        return false;
-    }
-    leaves::hypot(leaves::hypot_of_key(key), rest.z) <= limit
+// A limit that a clearance can be above, and a key in x and y that is beyond it whatever z is.
+#[derive(Clone, Copy)]
+pub(crate) struct Reach {
+    pub limit: f64,
+    far: f64,
+    ghost is_far: { Far limit far },
 }
 
-// Whether the distance from p to one of the segments of a ring's images is not above the limit.
-pub(crate) fn any_near(limit: f64, far: f64, p: Place, ring: &[f64]) -> bool
-    requires { Far limit far }
-    ensures { result ≡ any_near limit p false (triples ring.now) }
-{
-    let count = ring.len() / 3;
-    if count == 0 {
-        return false;
-    }
-    let first = place_at(ring, 0);
-    let mut a = first;
-    let mut k = 1;
-    while k < count {
-        let b = place_at(ring, 3 * k);
-        if is_near(limit, far, p, a, b) {
-            return true;
+impl Reach {
+    // Of a limit; none where no clearance can be above it, which is at most infinity: the least distance starts there.
+    #[tactic(auto, using(leaves::proofs::ConstantBits::infinity_bits))]
+    pub(crate) fn of(limit: f64) -> Option<Reach>
+        ensures none { is_none result ≡ not (lt limit (inf false)) }
+        ensures some { IfSome result (λ reach. reach.limit ≡ limit) }
+    {
+        if limit < 1.0 / 0.0 {
+            Some(Reach {
+                limit,
+                far: far_key(limit),
+            })
+        } else {
+            None
         }
-        a = b;
-        k += 1;
     }
-    is_near(limit, far, p, a, first)
+
+    // Whether the distance from p to the segment from a to b is not above the limit. Where its key in x and y
+    // reaches `far` it is above.
+    pub(crate) fn is_near(self, p: Place, a: Place, b: Place) -> bool
+        ensures { result ≡ is_near self.limit p (between a b) }
+    {
+        let rest = residual(p, a, b);
+        let key = leaves::key(rest.x, rest.y);
+        if self.far <= key {
+            return false;
+        }
+        leaves::hypot(leaves::hypot_of_key(key), rest.z) <= self.limit
+    }
+
+    // Whether the distance from p to one of the segments of a ring's images is not above the limit.
+    pub(crate) fn is_ring_near(self, p: Place, ring: &[f64]) -> bool
+        ensures { result ≡ any_near self.limit p false (triples ring.now) }
+    {
+        let count = ring.len() / 3;
+        if count == 0 {
+            return false;
+        }
+        let first = place_at(ring, 0);
+        let mut a = first;
+        for k in 1..count {
+            let b = place_at(ring, 3 * k);
+            if self.is_near(p, a, b) {
+                return true;
+            }
+            a = b;
+        }
+        self.is_near(p, a, first)
+    }
 }

@@ -10,8 +10,9 @@ ghost use Rattle.picker.specs.Stages.{ImagePassed, PlanePassed, closing};
 use crate::images::images_wrong;
 use answers::{Answer, Refusal, Values};
 use chart::find;
+use frame::Rings;
 use search::Candidate;
-use sheet::{MOST_NUMBERS, SMALL_NUMBERS};
+use sheet::{MOST_POINTS, ORIGIN, Point, SMALL_POINTS};
 use space::{Place, place_at};
 
 // The answer for the point p of the chosen grid point, and 15 where it is too close.
@@ -33,8 +34,14 @@ fn answer_at(is_close: bool, p: Place, best: Candidate) -> Answer
 
 // Image pick of what passes the checks down to 10. `moved` has room for just the moved points, and `ends` for
 // the rings' ends.
-fn image_over(s: &[u8], phase: u32, images: &[f64], moved: &mut [f64], ends: &mut [usize]) -> Answer
-    requires { ImagePassed s.now phase images.now × (length moved.old ≡ 2 * point_count (sheet_of s.now)) × (length ends.old ≡ ring_count s.now) }
+fn image_over(
+    s: &[u8],
+    phase: u32,
+    images: &[f64],
+    moved: &mut [Point],
+    ends: &mut [usize],
+) -> Answer
+    requires { ImagePassed s.now phase images.now × (length moved.old ≡ point_count (sheet_of s.now)) × (length ends.old ≡ ring_count s.now) }
     ensures { paper result ≡ image_pick_of s.now phase images.now }
 {
     let found = find(s, phase, moved, ends)?;
@@ -42,7 +49,7 @@ fn image_over(s: &[u8], phase: u32, images: &[f64], moved: &mut [f64], ends: &mu
     answer_at(physical::too_close(s, last, images), last, found.best)
 }
 
-// The same, over lists of its own, of which the first has room for N numbers.
+// The same, over lists of its own, of which the first has room for N points.
 fn image_within<const N: usize>(
     s: &[u8],
     phase: u32,
@@ -50,10 +57,10 @@ fn image_within<const N: usize>(
     n: usize,
     count: usize,
 ) -> Answer
-    requires { ImagePassed s.now phase images.now × (n ≡ 2 * point_count (sheet_of s.now)) × (count ≡ ring_count s.now) × (n ≤ N) × (N ≤ 4352) }
+    requires { ImagePassed s.now phase images.now × (n ≡ point_count (sheet_of s.now)) × (count ≡ ring_count s.now) × (n ≤ N) × (N ≤ 2176) }
     ensures { paper result ≡ image_pick_of s.now phase images.now }
 {
-    let mut moved = [0.0f64; N];
+    let mut moved = [ORIGIN; N];
     let mut ends = [0usize; sheet::MOST_RINGS];
     image_over(s, phase, images, &mut moved[..n], &mut ends[..count])
 }
@@ -66,34 +73,36 @@ pub fn image_pick(s: &[u8], phase: u32, images: &[f64]) -> Answer
     if images_wrong(s, images) {
         return Err(Refusal::Images);
     }
-    let n = frame::point_numbers(s);
+    let n = frame::point_count(s);
     let count = sheet::byte_at(s, 7) as usize;
-    if n <= SMALL_NUMBERS {
-        image_within::<SMALL_NUMBERS>(s, phase, images, n, count)
+    if n <= SMALL_POINTS {
+        image_within::<SMALL_POINTS>(s, phase, images, n, count)
     } else {
-        image_within::<MOST_NUMBERS>(s, phase, images, n, count)
+        image_within::<MOST_POINTS>(s, phase, images, n, count)
     }
 }
 
 // Plane pick of what passes the checks down to 8. `moved` has room for just the moved points, and `ends` for
 // the rings' ends.
-fn plane_over(s: &[u8], moved: &mut [f64], ends: &mut [usize]) -> Answer
-    requires { PlanePassed s.now × (length moved.old ≡ 2 * point_count (sheet_of s.now)) × (length ends.old ≡ ring_count s.now) }
+fn plane_over(s: &[u8], moved: &mut [Point], ends: &mut [usize]) -> Answer
+    requires { PlanePassed s.now × (length moved.old ≡ point_count (sheet_of s.now)) × (length ends.old ≡ ring_count s.now) }
     ensures { paper result ≡ plane_pick_of s.now }
 {
     let found = find(s, 0, moved, ends)?;
-    let u = chart::answered_u(found.frame, found.best);
-    let v = chart::answered_v(found.frame, 0, found.best);
-    let p = physical::place_on(s, u, v);
-    answer_at(physical::is_plane_close(s, p, moved, ends), p, found.best)
+    let p = physical::place_on(s, found.point(0));
+    let rings = Rings {
+        points: moved,
+        ends,
+    };
+    answer_at(physical::is_plane_close(s, p, rings), p, found.best)
 }
 
-// The same, over lists of its own, of which the first has room for N numbers.
+// The same, over lists of its own, of which the first has room for N points.
 fn plane_within<const N: usize>(s: &[u8], n: usize, count: usize) -> Answer
-    requires { PlanePassed s.now × (n ≡ 2 * point_count (sheet_of s.now)) × (count ≡ ring_count s.now) × (n ≤ N) × (N ≤ 4352) }
+    requires { PlanePassed s.now × (n ≡ point_count (sheet_of s.now)) × (count ≡ ring_count s.now) × (n ≤ N) × (N ≤ 2176) }
     ensures { paper result ≡ plane_pick_of s.now }
 {
-    let mut moved = [0.0f64; N];
+    let mut moved = [ORIGIN; N];
     let mut ends = [0usize; sheet::MOST_RINGS];
     plane_over(s, &mut moved[..n], &mut ends[..count])
 }
@@ -106,11 +115,11 @@ pub fn plane_pick(s: &[u8]) -> Answer
     if sheet::byte_at(s, 5) != 0 {
         return Err(Refusal::Phase);
     }
-    let n = frame::point_numbers(s);
+    let n = frame::point_count(s);
     let count = sheet::byte_at(s, 7) as usize;
-    if n <= SMALL_NUMBERS {
-        plane_within::<SMALL_NUMBERS>(s, n, count)
+    if n <= SMALL_POINTS {
+        plane_within::<SMALL_POINTS>(s, n, count)
     } else {
-        plane_within::<MOST_NUMBERS>(s, n, count)
+        plane_within::<MOST_POINTS>(s, n, count)
     }
 }

@@ -8,12 +8,11 @@ ghost use Rattle.picker.specs.ImagePick.{images_wrong};
 const IMAGE_LIMIT: f64 = 1073741824.0;
 
 // 10: a list that is not 3 x (points + 1) long, or an entry beyond the limit.
+#[tactic(auto, unfolding(crate::specs::ImagePick::images_wrong))]
 pub(crate) fn images_wrong(s: &[u8], images: &[f64]) -> bool
-    requires { 2 * point_count (sheet_of s.now) ≤ 4352 }
+    requires { point_count (sheet_of s.now) ≤ 2176 }
     ensures { result ≡ images_wrong (sheet_of s.now) images.now }
 {
-    if images.len() != 3 * (frame::point_numbers(s) / 2 + 1) {
-        return true;
-    }
-    answers::any_number_beyond(IMAGE_LIMIT, images)
+    images.len() != 3 * (frame::point_count(s) + 1)
+        || answers::any_number_beyond(IMAGE_LIMIT, images)
 }

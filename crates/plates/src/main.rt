@@ -7,12 +7,11 @@
 // said on standard error, and the program ends with status 1.
 #![tactic(auto)]
 
-ghost use Rattle.std.specs.Io.{ReadsAtMost};
 ghost use Rattle.std.specs.Prelude.{◌≡◌, ℕ, ◌-◌, ◌<◌, ◌≤◌, length, get_or};
 ghost use Rattle.text.specs.Page.{IsPrefixLen};
 
 use answers::Answer;
-use cases::{HEAD_SIZE, Head, UNWRITTEN};
+use cases::{Head, MOST_BYTES, MOST_PLACES, RecordError, UNWRITTEN};
 use std::fs;
 use std::io::{self, Read};
 use std::process::ExitCode;
@@ -20,27 +19,38 @@ use std::rt::Files;
 
 const NAME_SIZE: usize = 32;
 
-// The name and the call.
-const FRONT_SIZE: usize = 36;
-
-// The calls, as a plate has them.
-const CHART: u32 = 0;
-
-const IMAGE_PICK: u32 = 1;
-
-const PLANE_PICK: u32 = 2;
-
-const SPACE: u8 = 32;
+const MOST_NUMBERS: usize = 8 * MOST_PLACES;
 
 // A proved loop has to end: this is more than the file has.
 const MOST_PLATES: u64 = 10000;
 
-// What the next plate of a file showed.
+#[derive(Clone, Copy, Debug, PartialEq, Eq)]
+enum Call {
+    Chart,
+    ImagePick,
+    PlanePick,
+}
+
+// The call of a number, as a plate has it.
+impl TryFrom<u32> for Call {
+    type Error = RecordError;
+
+    fn try_from(number: u32) -> Result<Call, RecordError> {
+        match number {
+            0 => Ok(Call::Chart),
+            1 => Ok(Call::ImagePick),
+            2 => Ok(Call::PlanePick),
+            _ => Err(RecordError::Broken),
+        }
+    }
+}
+
+// What stands before a plate's sheet. The number of its call is looked at behind the sheet.
 #[derive(Clone, Copy)]
-enum Outcome {
-    Written,
-    Broken,
-    Ended,
+struct Plate {
+    name: [u8; NAME_SIZE],
+    call: u32,
+    head: Head,
 }
 
 // How many bytes stand before the spaces at the end.
@@ -49,17 +59,11 @@ fn before_spaces(name: &[u8]) -> usize
     ensures spaces { (k : ℕ) → result ≤ k → k < length name.now → get_or name.now k 0 ≡ 32 }
     ensures last { 0 < result → get_or name.now (result - 1) 0 ≡ 32 → ⊥ }
 {
-    let mut n = name.len();
-    while 0 < n {
-        if name[n - 1] != SPACE {
-            break;
-        }
-        n -= 1;
-    }
-    n
+    name.iter().rposition(|b| *b != b' ').map_or(0, |k| k + 1)
 }
 
 // Puts an answer's numbers at the start of the page.
+#[tactic(auto, using(crate::proofs::Pages::written))]
 fn put_answer(answer: Answer, page: &mut [u8]) -> usize
     ensures { IsPrefixLen result page.new }
 {
@@ -71,163 +75,80 @@ fn put_answer(answer: Answer, page: &mut [u8]) -> usize
     }
 }
 
-fn print_answer(rt: &impl Print, answer: Answer) -> io::Result<()> {
+// Writes a plate's line; `sum` is that of the chart's list.
+fn print_line(rt: &impl Print, name: &[u8], answer: Answer, sum: Option<u64>) -> io::Result<()> {
     let mut page = [0u8; 80];
     let n = put_answer(answer, &mut page);
-    rt.write_all(&page[..n])
-}
-
-fn print_hex(rt: &impl Print, n: u64) -> io::Result<()> {
-    let mut page = [0u8; 16];
-    text::put_hex(n, 0, &mut page);
-    rt.write_all(&page)
-}
-
-fn print_name(rt: &impl Print, name: &[u8]) -> io::Result<()> {
-    let n = before_spaces(name);
-    rt.write_all(&name[..n])?;
-    rt.write_all(b": ")
-}
-
-// Makes a plate's call of the chart, and writes its line.
-fn print_chart(
-    rt: &impl Print,
-    name: &[u8],
-    sheet: &[u8],
-    phase: u32,
-    list: &mut [f64],
-) -> io::Result<()> {
-    cases::fill(list, UNWRITTEN);
-    let answer = chart::chart(sheet, phase, list);
-    print_name(rt, name)?;
-    print_answer(rt, answer)?;
-    rt.write_all(b" ")?;
-    print_hex(rt, cases::check_sum(list))?;
+    rt.write_all(&name[..before_spaces(name)])?;
+    rt.write_all(b": ")?;
+    rt.write_all(&page[..n])?;
+    if let Some(sum) = sum {
+        print!(rt; " {sum:016X}")?;
+    }
     rt.write_all(b"\n")
 }
 
-fn print_pick(rt: &impl Print, name: &[u8], answer: Answer) -> io::Result<()> {
-    print_name(rt, name)?;
-    print_answer(rt, answer)?;
-    rt.write_all(b"\n")
-}
-
-// Reads until the buffer is full or the file ends. Answers how many bytes it put at the buffer's start.
-fn read_full<R: Read>(file: &mut R, buffer: &mut [u8]) -> io::Result<usize>
-    ensures { ReadsAtMost result buffer.new }
-{
-    let mut n = 0;
-    while n < buffer.len() {
-        let more = file.read(&mut buffer[n..])?;
-        if more == 0 {
-            break;
-        }
-        n += more;
+// The next plate of a file; none where the file has ended.
+fn next_plate<R: Read>(file: &mut R) -> Result<Option<Plate>, RecordError> {
+    let mut name = [0u8; NAME_SIZE];
+    match cases::read_full(file, &mut name)? {
+        0 => return Ok(None),
+        NAME_SIZE => {}
+        _ => return Err(RecordError::Broken),
     }
-    Ok(n)
-}
-
-// Reads the plate's sheet and images, makes its call and writes its line.
-fn run_call<R: Read>(
-    rt: &impl Print,
-    file: &mut R,
-    name: &[u8],
-    call: u32,
-    sheet: &mut [u8],
-    phase: u32,
-    list: &mut [f64],
-    numbers: &mut [u8],
-) -> io::Result<Outcome> {
-    if read_full(file, sheet)? != sheet.len() {
-        return Ok(Outcome::Broken);
-    }
-    if call == CHART {
-        print_chart(rt, name, sheet, phase, list)?;
-    } else if call == IMAGE_PICK {
-        if read_full(file, numbers)? != numbers.len() {
-            return Ok(Outcome::Broken);
-        }
-        cases::load(list, numbers);
-        print_pick(rt, name, picker::image_pick(sheet, phase, list))?;
-    } else if call == PLANE_PICK {
-        print_pick(rt, name, picker::plane_pick(sheet))?;
-    } else {
-        return Ok(Outcome::Broken);
-    }
-    Ok(Outcome::Written)
-}
-
-// Lends a call its room: the sheet, the list, and the list's numbers as the file has them.
-fn lend<R: Read>(
-    rt: &impl Print,
-    file: &mut R,
-    name: &[u8],
-    call: u32,
-    bytes: usize,
-    phase: u32,
-    places: usize,
-) -> io::Result<Outcome>
-    requires bytes_bound { bytes ≤ 40000 }
-    requires places_bound { places ≤ 6600 }
-{
-    let mut sheet = [0u8; 40000];
-    let mut list = [0.0f64; 6600];
-    let mut numbers = [0u8; 52800];
-    let size = 8 * places;
-    run_call(
-        rt,
-        file,
+    let mut call = [0u8; 4];
+    cases::read_whole(file, &mut call)?;
+    let head = cases::read_head(file)?.ok_or(RecordError::Broken)?;
+    Ok(Some(Plate {
         name,
-        call,
-        &mut sheet[..bytes],
-        phase,
-        &mut list[..places],
-        &mut numbers[..size],
-    )
+        call: u32::from_be_bytes(call),
+        head,
+    }))
 }
 
-fn run_plate<R: Read>(rt: &impl Print, file: &mut R) -> io::Result<Outcome> {
-    let mut front = [0u8; FRONT_SIZE];
-    let got = read_full(file, &mut front)?;
-    if got == 0 {
-        return Ok(Outcome::Ended);
-    }
-    if got < FRONT_SIZE {
-        return Ok(Outcome::Broken);
-    }
-    let call = cases::u32_at(&front, NAME_SIZE);
-    let mut bytes = [0u8; HEAD_SIZE];
-    let left = read_full(file, &mut bytes)?;
-    let head = cases::head_of(&bytes[..left]);
-    match head {
-        Head::Call(size, phase, places) => {
-            lend(rt, file, &front[..NAME_SIZE], call, size, phase, places)
+// Reads a plate's sheet and images, makes its call and writes its line.
+fn run_plate<R: Read>(rt: &impl Print, file: &mut R, plate: Plate) -> Result<(), RecordError> {
+    let mut sheet = [0u8; MOST_BYTES];
+    let mut list = [0.0f64; MOST_PLACES];
+    let mut numbers = [0u8; MOST_NUMBERS];
+    let head = plate.head;
+    let sheet = &mut sheet[..head.bytes];
+    let list = &mut list[..head.places];
+    cases::read_whole(file, sheet)?;
+    let (answer, sum) = match Call::try_from(plate.call)? {
+        Call::Chart => {
+            list.fill(UNWRITTEN);
+            let answer = chart::chart(sheet, head.phase, list);
+            (answer, Some(cases::check_sum(list)))
         }
-        Head::Broken => Ok(Outcome::Broken),
-        Head::Ended => Ok(Outcome::Broken),
-    }
+        Call::ImagePick => {
+            let numbers = &mut numbers[..8 * head.places];
+            cases::read_whole(file, numbers)?;
+            cases::load(list, numbers);
+            (picker::image_pick(sheet, head.phase, list), None)
+        }
+        Call::PlanePick => (picker::plane_pick(sheet), None),
+    };
+    Ok(print_line(rt, &plate.name, answer, sum)?)
 }
 
-fn run_plates<R: Read>(rt: &impl Print, file: &mut R) -> io::Result<()> {
-    let mut read: u64 = 0;
-    while read < MOST_PLATES {
-        let outcome = run_plate(rt, file)?;
-        match outcome {
-            Outcome::Written => {}
-            Outcome::Broken => {
-                rt.write_all(b"broken\n")?;
-                break;
-            }
-            Outcome::Ended => break,
-        }
-        read += 1;
+fn run_plates<R: Read>(rt: &impl Print, file: &mut R) -> Result<(), RecordError> {
+    for _ in 0..MOST_PLATES {
+        let Some(plate) = next_plate(file)? else {
+            break;
+        };
+        run_plate(rt, file, plate)?;
     }
     Ok(())
 }
 
 fn run_file(rt: &(impl Files + Print), name: &str) -> io::Result<()> {
     let mut file = fs::open(rt, name)?;
-    run_plates(rt, &mut file)
+    match run_plates(rt, &mut file) {
+        Ok(()) => Ok(()),
+        Err(RecordError::Broken) => rt.write_all(b"broken\n"),
+        Err(RecordError::Io(error)) => Err(error),
+    }
 }
 
 fn main(rt: HostRuntime) -> ExitCode {

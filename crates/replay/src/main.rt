@@ -19,12 +19,11 @@
 // program with status 1.
 #![tactic(auto)]
 
-ghost use Rattle.std.specs.Io.{ReadsAtMost};
-ghost use Rattle.std.specs.Prelude.{◌≡◌, ◌&&◌, ◌≤◌};
+ghost use Rattle.std.specs.Prelude.{◌≡◌, ◌+◌, ◌<◌, ◌≤◌};
 ghost use Rattle.replay.specs.Recorded.{recorded};
 
 use answers::{Answer, of_direction, of_middle, of_parameter, of_position};
-use cases::{HEAD_SIZE, Head, UNWRITTEN, is_shown, u32_at, u64_at};
+use cases::{Head, MOST_BYTES, MOST_PLACES, RecordError, UNWRITTEN, is_shown, u32_at, u64_at};
 use std::fs;
 use std::io::{self, Read};
 use std::process::ExitCode;
@@ -36,27 +35,20 @@ const MOST_RECORDS: u64 = 100000;
 // The longest front of a call after the picker.
 const MOST_FRONT: usize = 1024;
 
-// The call that a file's records are of.
+const MOST_NUMBERS: usize = 8 * MOST_PLACES;
+
+// What a call left: its answer, and whether its list is the record's.
 #[derive(Clone, Copy)]
-enum Call {
-    Chart,
-    ImagePick,
-    PlanePick,
-    SampleParameter,
-    Direction,
-    SphericalTriangle,
-    PointOn,
-    CylinderPoint,
-    Placed,
+struct Left {
+    answer: Answer,
+    is_list_right: bool,
 }
 
-// What the next record showed: a point or a refusal, and whether it is the record's.
+// What a record showed: whether the answer is a point, and whether all is the record's.
 #[derive(Clone, Copy)]
-enum Outcome {
-    Point(bool),
-    Refusal(bool),
-    Broken,
-    Ended,
+struct Outcome {
+    is_point: bool,
+    is_right: bool,
 }
 
 // How many records were read, how many of the answers are points, and how many are wrong.
@@ -65,253 +57,140 @@ struct Tally {
     read: u64,
     points: u64,
     wrong: u64,
+    ghost points_bound: { points ≤ read },
+    ghost wrong_bound: { wrong ≤ read },
 }
 
-// `a && b` as a call: a question of several parts then has no branches to prove.
-fn both(a: bool, b: bool) -> bool
-    ensures { result ≡ (a && b) }
-{
-    if a { b } else { false }
+impl Tally {
+    fn count(&mut self, outcome: Outcome)
+        requires { self.old.read < MOST_RECORDS }
+        ensures { self.new.read ≡ self.old.read + 1 }
+    {
+        self.read += 1;
+        self.points += u64::from(outcome.is_point);
+        self.wrong += u64::from(!outcome.is_right);
+    }
 }
 
-// Whether the recorded answer has these numbers.
-fn is_recorded(
-    answer: &[u8; 40],
+// The six numbers of an answer; those beside a refusal's are 0.
+#[derive(Clone, Copy, Default)]
+struct Numbers {
     status: u32,
     x: f64,
     y: f64,
     z: f64,
     clearance: f64,
     count: u32,
-) -> bool
-    ensures { result ≡ recorded answer.now status x y z clearance count }
+}
+
+// Whether the recorded answer has these numbers.
+#[tactic(auto, unfolding(crate::specs::Recorded::recorded))]
+fn is_recorded(answer: &[u8; 40], given: Numbers) -> bool
+    ensures { result ≡ recorded answer.now given.status given.x given.y given.z given.clearance given.count }
 {
-    let whole = both(u32_at(answer, 0) == status, u32_at(answer, 36) == count);
-    let place = both(
-        is_shown(x, u64_at(answer, 4)),
-        is_shown(y, u64_at(answer, 12)),
-    );
-    let rest = both(
-        is_shown(z, u64_at(answer, 20)),
-        is_shown(clearance, u64_at(answer, 28)),
-    );
-    both(whole, both(place, rest))
+    u32_at(answer, 0) == given.status
+        && u32_at(answer, 36) == given.count
+        && is_shown(given.x, u64_at(answer, 4))
+        && is_shown(given.y, u64_at(answer, 12))
+        && is_shown(given.z, u64_at(answer, 20))
+        && is_shown(given.clearance, u64_at(answer, 28))
 }
 
-// What a call showed whose list is right or not; the numbers beside a refusal are 0.
-fn compared(res: Answer, list_right: bool, answer: &[u8; 40]) -> Outcome {
-    match res {
-        Answer::Point(x, y, z, clearance, count) => {
-            Outcome::Point(list_right && is_recorded(answer, 0, x, y, z, clearance, count))
-        }
-        Answer::Refused(number) => {
-            Outcome::Refusal(list_right && is_recorded(answer, number, 0.0, 0.0, 0.0, 0.0, 0))
-        }
-    }
-}
-
-// Makes a call after the picker and compares. A list that is too short to hold the call's numbers is broken.
-fn judge_after(call: Call, front: &[f64], whole: u32, list: &[f64], answer: &[u8; 40]) -> Outcome {
-    match call {
-        Call::SampleParameter => {
-            if list.len() != 2 {
-                return Outcome::Broken;
-            }
-            compared(
-                of_parameter(steps::sample_parameter(list[0], list[1], whole)),
+impl Left {
+    // What a record showed whose answer has these bytes.
+    fn held_against(self, answer: &[u8; 40]) -> Outcome {
+        let (is_point, given) = match self.answer {
+            Answer::Point(x, y, z, clearance, count) => (
                 true,
-                answer,
-            )
-        }
-        Call::Direction => compared(of_direction(steps::edge_direction(list)), true, answer),
-        Call::SphericalTriangle => {
-            if list.len() == 0 {
-                return Outcome::Broken;
-            }
-            let result = triangle::spherical_triangle_of(front, list[0], whole, &list[1..]);
-            compared(of_position(result), true, answer)
-        }
-        Call::PointOn => {
-            let n = whole as usize;
-            if front.len() < n {
-                return Outcome::Broken;
-            }
-            compared(
-                of_position(vertex_fallback::point_on(&front[..n], &front[n..], list)),
-                true,
-                answer,
-            )
-        }
-        Call::CylinderPoint => compared(
-            of_middle(round_fallback::cylinder_point(front, list)),
-            true,
-            answer,
-        ),
-        Call::Placed => compared(of_position(steps::placed(front, list)), true, answer),
-        _ => Outcome::Broken,
-    }
-}
-
-// Loads the numbers of a call's front, eight bytes each, and makes the call.
-fn run_front(
-    call: Call,
-    bytes: &[u8],
-    whole: u32,
-    front: &mut [f64],
-    list: &[f64],
-    answer: &[u8; 40],
-) -> Outcome {
-    cases::load(front, bytes);
-    judge_after(call, front, whole, list, answer)
-}
-
-// Lends a call after the picker room for the numbers of its front.
-fn lend_front(call: Call, bytes: &[u8], whole: u32, list: &[f64], answer: &[u8; 40]) -> Outcome {
-    let n = bytes.len() / 8;
-    if MOST_FRONT < n {
-        return Outcome::Broken;
-    }
-    let mut front = [0.0f64; MOST_FRONT];
-    run_front(call, bytes, whole, &mut front[..n], list, answer)
-}
-
-// Makes the call and compares. Only the chart can write its list.
-fn judge(
-    call: Call,
-    sheet: &[u8],
-    phase: u32,
-    list: &mut [f64],
-    answer: &[u8; 40],
-    numbers: &[u8],
-) -> Outcome {
-    match call {
-        Call::Chart => {
-            cases::fill(list, UNWRITTEN);
-            let result = chart::chart(sheet, phase, list);
-            compared(result, cases::wrong_places(list, numbers) == 0, answer)
-        }
-        Call::ImagePick => {
-            cases::load(list, numbers);
-            compared(picker::image_pick(sheet, phase, list), true, answer)
-        }
-        Call::PlanePick => compared(picker::plane_pick(sheet), true, answer),
-        _ => {
-            cases::load(list, numbers);
-            lend_front(call, sheet, phase, list, answer)
+                Numbers {
+                    status: 0,
+                    x,
+                    y,
+                    z,
+                    clearance,
+                    count,
+                },
+            ),
+            Answer::Refused(status) => (
+                false,
+                Numbers {
+                    status,
+                    ..Numbers::default()
+                },
+            ),
+        };
+        Outcome {
+            is_point,
+            is_right: self.is_list_right && is_recorded(answer, given),
         }
     }
 }
 
-// Reads until the buffer is full or the file ends. Answers how many bytes it put at the buffer's start.
-fn read_full<R: Read>(file: &mut R, buffer: &mut [u8]) -> io::Result<usize>
-    ensures { ReadsAtMost result buffer.new }
-{
-    let mut n = 0;
-    while n < buffer.len() {
-        let more = file.read(&mut buffer[n..])?;
-        if more == 0 {
-            break;
-        }
-        n += more;
-    }
-    Ok(n)
-}
-
-// Reads the rest of a record, and makes its call.
-fn run_call<R: Read>(
+// Reads a record and makes its call; of a file that has ended, nothing.
+fn run_record<F: Fn(&[u8], u32, &mut [f64], &[u8]) -> Result<Left, RecordError>, R: Read>(
     file: &mut R,
-    call: Call,
-    sheet: &mut [u8],
-    phase: u32,
-    list: &mut [f64],
-    numbers: &mut [u8],
-) -> io::Result<Outcome> {
-    let mut answer = [0u8; 40];
-    if read_full(file, sheet)? != sheet.len() {
-        return Ok(Outcome::Broken);
-    }
-    if read_full(file, &mut answer)? != 40 {
-        return Ok(Outcome::Broken);
-    }
-    if read_full(file, numbers)? != numbers.len() {
-        return Ok(Outcome::Broken);
-    }
-    Ok(judge(call, sheet, phase, list, &answer, numbers))
-}
-
-// Lends a call its room: the sheet, the list, and the list's recorded numbers.
-fn lend<R: Read>(
-    file: &mut R,
-    call: Call,
-    bytes: usize,
-    phase: u32,
-    places: usize,
-) -> io::Result<Outcome>
-    requires bytes_bound { bytes ≤ 40000 }
-    requires places_bound { places ≤ 6600 }
+    call: F,
+) -> Result<Option<Outcome>, RecordError>
+    requires { F.IsAlwaysCallable call }
 {
-    let mut sheet = [0u8; 40000];
-    let mut list = [0.0f64; 6600];
-    let mut numbers = [0u8; 52800];
-    let size = 8 * places;
-    run_call(
-        file,
-        call,
-        &mut sheet[..bytes],
+    let Some(head) = cases::read_head(file)? else {
+        return Ok(None);
+    };
+    let Head {
+        bytes,
         phase,
-        &mut list[..places],
-        &mut numbers[..size],
-    )
+        places,
+    } = head;
+    let mut sheet = [0u8; MOST_BYTES];
+    let mut answer = [0u8; 40];
+    let mut numbers = [0u8; MOST_NUMBERS];
+    let mut list = [0.0f64; MOST_PLACES];
+    let sheet = &mut sheet[..bytes];
+    let numbers = &mut numbers[..8 * places];
+    cases::read_whole(file, sheet)?;
+    cases::read_whole(file, &mut answer)?;
+    cases::read_whole(file, numbers)?;
+    let left = call(sheet, phase, &mut list[..places], numbers)?;
+    Ok(Some(left.held_against(&answer)))
 }
 
-fn run_record<R: Read>(file: &mut R, call: Call) -> io::Result<Outcome> {
-    let mut bytes = [0u8; HEAD_SIZE];
-    let got = read_full(file, &mut bytes)?;
-    let head = cases::head_of(&bytes[..got]);
-    match head {
-        Head::Call(size, phase, places) => lend(file, call, size, phase, places),
-        Head::Broken => Ok(Outcome::Broken),
-        Head::Ended => Ok(Outcome::Ended),
-    }
-}
-
-fn number(b: bool) -> u64
-    ensures { result ≤ 1 }
+fn run_records<F: Fn(&[u8], u32, &mut [f64], &[u8]) -> Result<Left, RecordError>, R: Read>(
+    file: &mut R,
+    call: F,
+) -> io::Result<Tally>
+    requires { F.IsAlwaysCallable call }
 {
-    if b { 1 } else { 0 }
-}
-
-fn run_records<R: Read>(file: &mut R, call: Call) -> io::Result<Tally> {
-    let mut read: u64 = 0;
-    let mut points: u64 = 0;
-    let mut wrong: u64 = 0;
-    while read < MOST_RECORDS {
-        let outcome = run_record(file, call)?;
-        match outcome {
-            Outcome::Point(right) => {
-                points += 1;
-                wrong += number(!right);
-            }
-            Outcome::Refusal(right) => wrong += number(!right),
-            Outcome::Broken => {
-                read += 1;
-                wrong += 1;
+    let mut tally = Tally {
+        read: 0,
+        points: 0,
+        wrong: 0,
+    };
+    for _ in 0..MOST_RECORDS {
+        match run_record(file, &call) {
+            Ok(Some(outcome)) => tally.count(outcome),
+            Ok(None) => break,
+            Err(RecordError::Broken) => {
+                tally.count(Outcome {
+                    is_point: false,
+                    is_right: false,
+                });
                 break;
             }
-            Outcome::Ended => break,
+            Err(RecordError::Io(error)) => return Err(error),
         }
-        read += 1;
     }
-    Ok(Tally {
-        read: read,
-        points: points,
-        wrong: wrong,
-    })
+    Ok(tally)
 }
 
 // Replays the records of a file, and writes how many there were, how many of the answers are points and how
 // many are wrong.
-fn run_file(rt: &(impl Files + Print), name: &str, call: Call) -> io::Result<()> {
+fn run_file<F: Fn(&[u8], u32, &mut [f64], &[u8]) -> Result<Left, RecordError>>(
+    rt: &(impl Files + Print),
+    name: &str,
+    call: F,
+) -> io::Result<()>
+    requires { F.IsAlwaysCallable call }
+{
     let mut file = fs::open(rt, name)?;
     let tally = run_records(&mut file, call)?;
     println!(rt;
@@ -321,27 +200,124 @@ fn run_file(rt: &(impl Files + Print), name: &str, call: Call) -> io::Result<()>
 }
 
 // Whether the file was replayed and its line written; else it says on standard error what failed.
-fn is_run(rt: &(impl Files + Print + Eprint), name: &str, call: Call) -> bool {
-    match run_file(rt, name, call) {
-        Ok(()) => true,
-        Err(error) => {
-            let _ = eprintln!(rt; "{name}: {error}");
-            false
-        }
+fn is_run<F: Fn(&[u8], u32, &mut [f64], &[u8]) -> Result<Left, RecordError>>(
+    rt: &(impl Files + Print + Eprint),
+    name: &str,
+    call: F,
+) -> bool
+    requires { F.IsAlwaysCallable call }
+{
+    let run = run_file(rt, name, call);
+    if let Err(error) = run {
+        let _ = eprintln!(rt; "{name}: {error}");
     }
+    run.is_ok()
+}
+
+// The same of a call that is lent its list to read.
+fn is_run_with_list<F: Fn(&[u8], u32, &[f64]) -> Result<Answer, RecordError>>(
+    rt: &(impl Files + Print + Eprint),
+    name: &str,
+    call: F,
+) -> bool
+    requires { F.IsAlwaysCallable call }
+{
+    is_run(rt, name, |sheet, phase, list, numbers| {
+        cases::load(list, numbers);
+        Ok(Left {
+            answer: call(sheet, phase, list)?,
+            is_list_right: true,
+        })
+    })
+}
+
+// Loads the numbers of a call's front, eight bytes each, and makes the call. A front above the longest is broken.
+fn with_front<F: Fn(&[f64], u32, &[f64]) -> Result<Answer, RecordError>>(
+    bytes: &[u8],
+    whole: u32,
+    list: &[f64],
+    call: &F,
+) -> Result<Answer, RecordError>
+    requires { F.IsAlwaysCallable call.now }
+{
+    let mut front = [0.0f64; MOST_FRONT];
+    let front = front.get_mut(..bytes.len() / 8).ok_or(RecordError::Broken)?;
+    cases::load(front, bytes);
+    call(front, whole, list)
+}
+
+// The same of a call after the picker, whose numbers stand in front and list.
+fn is_run_with_front<F: Fn(&[f64], u32, &[f64]) -> Result<Answer, RecordError>>(
+    rt: &(impl Files + Print + Eprint),
+    name: &str,
+    call: F,
+) -> bool
+    requires { F.IsAlwaysCallable call }
+{
+    is_run_with_list(
+        rt,
+        name,
+        |bytes, whole, list| with_front(bytes, whole, list, &call),
+    )
+}
+
+// Replays the calls of the picker.
+fn is_picker_run(rt: &(impl Files + Print + Eprint)) -> bool {
+    let chart = is_run(rt, "chart", |sheet, phase, list, numbers| {
+        list.fill(UNWRITTEN);
+        let answer = chart::chart(sheet, phase, list);
+        let is_list_right = cases::wrong_places(list, numbers) == 0;
+        Ok(Left {
+            answer,
+            is_list_right,
+        })
+    });
+    let image_pick = is_run_with_list(rt, "image_pick", |sheet, phase, images| {
+        Ok(picker::image_pick(sheet, phase, images))
+    });
+    let plane_pick = is_run_with_list(
+        rt,
+        "plane_pick",
+        |sheet, _, _| Ok(picker::plane_pick(sheet)),
+    );
+    chart && image_pick && plane_pick
+}
+
+// Replays the calls after the picker.
+fn is_after_run(rt: &(impl Files + Print + Eprint)) -> bool {
+    let sample_parameter = is_run_with_front(rt, "sample_parameter", |_, n, list| match list {
+        [a, b] => Ok(of_parameter(steps::sample_parameter(*a, *b, n))),
+        _ => Err(RecordError::Broken),
+    });
+    let direction = is_run_with_front(rt, "direction", |_, _, points| {
+        Ok(of_direction(steps::edge_direction(points)))
+    });
+    let triangle = is_run_with_front(rt, "spherical_triangle", |centre, sense, list| match list {
+        [radius, sides @ ..] => {
+            let answer = triangle::spherical_triangle_of(centre, *radius, sense, sides);
+            Ok(of_position(answer))
+        }
+        [] => Err(RecordError::Broken),
+    });
+    let point_on = is_run_with_front(rt, "point_on", |front, n, corners| {
+        let (axis, normal) = front
+            .split_at_checked(n as usize)
+            .ok_or(RecordError::Broken)?;
+        Ok(of_position(vertex_fallback::point_on(axis, normal, corners)))
+    });
+    let cylinder_point = is_run_with_front(rt, "cylinder_point", |heights, _, angles| {
+        Ok(of_middle(round_fallback::cylinder_point(heights, angles)))
+    });
+    let placed = is_run_with_front(rt, "placed", |transform, _, point| {
+        Ok(of_position(steps::placed(transform, point)))
+    });
+    sample_parameter && direction && triangle && point_on && cylinder_point && placed
 }
 
 fn main(rt: HostRuntime) -> ExitCode {
-    let mut all = is_run(&rt, "chart", Call::Chart);
-    all &= is_run(&rt, "image_pick", Call::ImagePick);
-    all &= is_run(&rt, "plane_pick", Call::PlanePick);
-    all &= is_run(&rt, "sample_parameter", Call::SampleParameter);
-    all &= is_run(&rt, "direction", Call::Direction);
-    all &= is_run(&rt, "spherical_triangle", Call::SphericalTriangle);
-    all &= is_run(&rt, "point_on", Call::PointOn);
-    all &= is_run(&rt, "cylinder_point", Call::CylinderPoint);
-    all &= is_run(&rt, "placed", Call::Placed);
-    if all {
+    let picker = is_picker_run(&rt);
+    let after = is_after_run(&rt);
+    if picker && after {
         ExitCode::SUCCESS
     } else {
         ExitCode::FAILURE

@@ -1,16 +1,17 @@
--- The least and the greatest of a list, found number by number: the fold from what is found over the numbers from the
--- kth on is the whole fold. One law for either step.
-use mathlib.Core.Path.{◌≡◌, sym, ap, ◌∙◌}
+-- The least and the greatest of a list, from the patterns of the infinities.
+use mathlib.Core.Path.{◌≡◌, refl}
 use mathlib.Core.List.{List, foldl}
-use Prim.Native.Nat.{ℕ, ◌+◌, ◌≤◌, ◌<◌}
-use native.Mathlib.Numerals.{add-one}
-use lib.Ieee.{Float, nan}
-use lib.ListN.{length, get_or, drop, drop_of_length-le}
-use lib.Seq.{drop-cons}
+use lib.Ieee.{Float, binary64, of_bits}
+use Rattle.leaves.specs.Bounds.{smaller_of, larger_of}
+use Rattle.points.specs.Bounds.{least, greatest}
+use Rattle.std.proofs.lemmas.Grind.{common_steps}
 
-module _ (step : Float → Float → Float) (xs : List Float) (k : ℕ) (found : Float) {whole : Float} (so_far : foldl step found (drop k xs) ≡ whole) where
-  pub extreme_next : {next : Float} → k < length xs → next ≡ step found (get_or xs k nan) → foldl step next (drop (k + 1) xs) ≡ whole
-  extreme_next h e = rw (add-one, e) (sym (ap (foldl step found) (drop-cons xs k nan h)) ∙ so_far)
+pub least_is : (xs : List Float) → least xs ≡ foldl smaller_of (of_bits binary64 0x7FF0000000000000) xs
+unfolding least of_bits
+least_is xs = refl
 
-  pub extreme_found : length xs ≤ k → found ≡ whole
-  extreme_found h = sym (ap (foldl step found) (drop_of_length-le xs h)) ∙ so_far
+pub greatest_is : (xs : List Float) → greatest xs ≡ foldl larger_of (of_bits binary64 0xFFF0000000000000) xs
+unfolding greatest of_bits
+greatest_is xs = refl
+
+pub ruleset extremes = (common_steps, least_is, greatest_is)

@@ -2,8 +2,10 @@
 
 -- the least and the greatest height
 pub mod Extremes
--- angles in order, and the stretches between them
+-- angles in order
+pub mod Preceding
 pub mod Sorting
-pub mod Stretches
+-- corner angles that are kept
+pub mod Kept
 -- demand 1: refusals
 pub mod Refusals

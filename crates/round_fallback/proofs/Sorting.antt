@@ -1,119 +1,33 @@
 -- `sorted_of` sorts: its numbers are those of the list, and of numbers, that is values of the format that are no NaN,
--- none precedes any before it. The angles that a call sorts are such numbers, so its corner angles are in order. The
--- insertion that `sorted_of` sorts by, as the code does it: the place is searched from the front, the numbers behind it
--- move up by one, and the number is stored.
-use mathlib.Core.Path.{◌≡◌, refl, sym, ap, ◌∙◌, subst}
-use mathlib.Core.Bool.{Bool, true, false, not, cond, ◌&&◌, ◌||◌, true≢false}
+-- none precedes any before it. The angles that a call sorts are such numbers, so its corner angles are in order. No
+-- other list of these numbers is in order.
+use mathlib.Core.Path.{◌≡◌, refl, sym, ap, ◌∙◌}
+use mathlib.Core.Bool.{Bool, true, false, cond, true≢false}
 use mathlib.Core.List.Permᴰ
-use mathlib.Core.List.{List, [], ◌∷◌, ◌++◌, map, foldl, append_assoc, Permᴰ}
-use Prim.Native.Nat.{ℕ, suc, ◌+◌, ◌-◌, ◌≤◌, ◌<◌}
-use native.Mathlib.Numerals.{add-one}
+use mathlib.Core.List.{List, [], ◌∷◌, ◌++◌, map, foldl, Permᴰ}
+use Prim.Native.Nat.{ℕ, ◌+◌, ◌<◌}
+use native.Mathlib.Numerals.{unary_clauses}
 use native.Mathlib.Omega.{arith}
-use lib.Dec.{T, T_not}
-use lib.Ieee.{Float, nan, binary64, of_bits, fits, lt, eq, le, div}
-use lib.Ieee.Fits.{div-fits}
+use lib.Dec.{T}
+use lib.Ieee.{Float, nan, of_bits}
 use lib.Ieee.Scale.{finite}
-use lib.ListN.{length, get_or, take, drop, set, drop_of_length-le, get_or-append}
-use lib.Seq.{drop-cons, take-suc, split_at, set_at, length-take-le, take_all, take-take, take_at, get_or-take}
-use Rattle.leaves.specs.Constants.{one}
+use lib.ListN.{length, get_or}
 use Rattle.leaves.specs.Wrap.{rem_tau}
 use Rattle.leaves.proofs.Folds.{All, all_perm, fold_keeps}
-use Rattle.leaves.proofs.Order.{lt_asym, eq→le, eq→not_lt, le→not_lt, not_lt→le, le_antisym, float_le_trans}
-use Rattle.leaves.proofs.Patterns.{one_over_number}
 use Rattle.leaves.proofs.Wraps.{rem_tau_fits, rem_tau_number}
 use Rattle.answers.specs.Limits.{beyond, argument_limit}
 use Rattle.answers.specs.Lists.{any_of}
 use Rattle.answers.proofs.AnyOf.{neither, any_false}
 use Rattle.answers.proofs.Finite.{not_beyond_finite}
-use Rattle.std.specs.List.{AllByRecursion}
+use Rattle.std.specs.List.{AllByRecursion, sum_by}
+use Rattle.std.specs.List.Sorted.{IsPermutation}
+use Rattle.std.proofs.Common.{is_lt}
+use Rattle.std.proofs.lemmas.List.Elements.{recursion_from_All, All-from_recursion, All-get_or}
+use Rattle.std.proofs.lemmas.List.Sorted.{All-permutation, sum_by-IsPermutation}
+use Rattle.std.proofs.lemmas.List.Sums.{sum_by-cons}
 use Rattle.round_fallback.specs.Cylinder.{precedes, insert_of, sorted_of, is_near, kept_after, kept_of, corner_angles, round_wrong}
 use Rattle.round_fallback.specs.Sorted.{Numeric, Ordered}
-
--- ---- the place, searched from the front
-
-insert_here : (x : Float) {y : Float} {l ys : List Float} → l ≡ y ∷ ys → precedes x y ≡ true → insert_of x l ≡ x ∷ l
-unfolding insert_of
-insert_here x {l = l} e t = ap (insert_of x) e ∙ rw t (ap (λ (zs : List Float). x ∷ zs) (sym e))
-
-insert_later : (x : Float) {y : Float} {l ys : List Float} → l ≡ y ∷ ys → precedes x y ≡ false → insert_of x l ≡ y ∷ insert_of x ys
-unfolding insert_of
-insert_later x e t = ap (insert_of x) e ∙ rw t
-
-insert_last : (x : Float) {l : List Float} → l ≡ [] → insert_of x l ≡ x ∷ l
-unfolding insert_of
-insert_last x e = ap (insert_of x) e ∙ ap (λ (zs : List Float). x ∷ zs) (sym e)
-
-module _ (x : Float) (xs : List Float) (k : ℕ) where
-  pub place_here : k < length xs → precedes x (get_or xs k nan) ≡ true → take k xs ++ insert_of x (drop k xs) ≡ take k xs ++ x ∷ drop k xs
-  place_here h t = ap (λ (l : List Float). take k xs ++ l) (insert_here x (drop-cons xs k nan h) t)
-
-  pub place_later : k < length xs → precedes x (get_or xs k nan) ≡ false → take k xs ++ insert_of x (drop k xs) ≡ take (k + 1) xs ++ insert_of x (drop (k + 1) xs)
-  place_later h t =
-      ap (λ (l : List Float). take k xs ++ l) (insert_later x (drop-cons xs k nan h) t)
-      ∙ rw (add-one, take-suc xs k nan h, append_assoc)
-
-  pub place_last : length xs ≤ k → take k xs ++ insert_of x (drop k xs) ≡ take k xs ++ x ∷ drop k xs
-  place_last h = ap (λ (l : List Float). take k xs ++ l) (insert_last x (drop_of_length-le xs h))
-
--- ---- room for it
-
--- the numbers from the k-th on, the last excepted, which is free, moved up by one; the k-th place is free
-abbrev pub opened_at : ℕ → List Float → ℕ → List Float
-opened_at n xs k = take k xs ++ get_or xs k nan ∷ drop k (take n xs)
-
-module _ (xs : List Float) (n : ℕ) (size : length xs ≡ n + 1) where
-  front : (k : ℕ) → k ≤ n → length (take k xs) ≡ k
-  front k h = length-take-le k xs (omega arith)
-
-  pub open_last : xs ≡ opened_at n xs n
-  open_last =
-      let none : drop n (take n xs) ≡ [] = drop_of_length-le (take n xs) {i = n} (omega (arith, front n (omega arith))) in
-      let end : drop (suc n) xs ≡ [] = drop_of_length-le xs {i = suc n} (omega arith) in
-      split_at xs n nan (omega arith) ∙ rw (none, end)
-
-  -- the number at k, which is one further down, moves up
-  pub open_down : (k : ℕ) → 0 < k → k ≤ n → set (opened_at n xs k) k (get_or (opened_at n xs k) (k - 1) nan) ≡ opened_at n xs (k - 1)
-  open_down k h m =
-      let j = k - 1 in
-      let e : k ≡ suc j = omega arith in
-      let v : get_or (opened_at n xs k) j nan ≡ get_or xs j nan = get_or-append (take k xs) (get_or xs k nan ∷ drop k (take n xs)) nan j (omega (arith, front k m)) ∙ get_or-take k xs j nan (omega arith) in
-      let d : drop j (take n xs) ≡ get_or xs j nan ∷ drop (suc j) (take n xs) = drop-cons (take n xs) j nan (omega (arith, front n (omega arith))) ∙ ap (λ (y : Float). y ∷ drop (suc j) (take n xs)) (get_or-take n xs j nan (omega arith)) in
-      set_at (take k xs) (get_or xs k nan) (drop k (take n xs)) (get_or (opened_at n xs k) j nan) k (front k m)
-      ∙ ap (λ (y : Float). take k xs ++ y ∷ drop k (take n xs)) v
-      ∙ ap (λ (i : ℕ). take i xs ++ get_or xs j nan ∷ drop i (take n xs)) e
-      ∙ rw (take-suc xs j nan (omega arith), append_assoc, d)
-
-  -- the number is stored
-  pub open_filled : (x : Float) (k : ℕ) → k ≤ n → insert_of x (take n xs) ≡ take k (take n xs) ++ x ∷ drop k (take n xs) → set (opened_at n xs k) k x ≡ insert_of x (take n xs)
-  open_filled x k h e =
-      set_at (take k xs) (get_or xs k nan) (drop k (take n xs)) x k (front k h)
-      ∙ ap (λ (l : List Float). l ++ x ∷ drop k (take n xs)) (sym (take-take k n xs h))
-      ∙ sym e
-
--- ---- one number after the other
-
--- the rest put in their places among those that are in order
-abbrev pub sort_from : List Float → List Float → List Float
-sort_from ys xs = foldl (λ (zs : List Float) (x : Float). insert_of x zs) ys xs
-
-module _ (angles : List Float) where
-  pub sort_start : sort_from [] (map rem_tau angles) ≡ sorted_of (map rem_tau angles)
-  unfolding sorted_of
-  sort_start = refl
-
-  -- over the front of the list, whose first k numbers are in order
-  pub sort_step : (sorted ys : List Float) (k : ℕ) → k < length angles → length sorted ≡ length angles → length ys ≡ length (take (k + 1) sorted)
-      → ys ≡ insert_of (rem_tau (get_or angles k nan)) (take (length (take (k + 1) sorted) - 1) (take (k + 1) sorted))
-      → sort_from (take (k + 1) (ys ++ drop (k + 1) sorted)) (map rem_tau (drop (k + 1) angles)) ≡ sort_from (take k sorted) (map rem_tau (drop k angles))
-  sort_step sorted ys k h size same e =
-      let n : length (take (k + 1) sorted) ≡ k + 1 = length-take-le (k + 1) sorted (omega arith) in
-      let m : length (take (k + 1) sorted) - 1 ≡ k = omega arith in
-      let o : k ≤ k + 1 = omega arith in
-      let y : ys ≡ insert_of (rem_tau (get_or angles k nan)) (take k sorted) = e ∙ rw (m, take-take k (k + 1) sorted o) in
-      rw (take_at ys (drop (k + 1) sorted) (k + 1) (same ∙ n), y, add-one, drop-cons angles k nan h)
-
-  pub sort_end : (sorted : List Float) (k : ℕ) → length angles ≤ k → k ≤ length angles → length sorted ≡ length angles → sort_from (take k sorted) (map rem_tau (drop k angles)) ≡ sorted
-  sort_end sorted k h m size = rw (drop_of_length-le angles h) (take_all k sorted (omega arith))
+use Rattle.round_fallback.proofs.Preceding.{precedes_asym, precedes_not_trans, level_same, key_order, not_less}
 
 -- ---- the same numbers
 
@@ -126,6 +40,10 @@ insert_perm x (y ∷ ys) = by (precedes x y) (insert_perm x ys)
     by true d = Permᴰ.refl (x ∷ y ∷ ys)
     by false d = Permᴰ.trans (Permᴰ.cons refl d) (Permᴰ.swap refl refl)
 
+-- the rest put in their places among those that are in order
+abbrev sort_from : List Float → List Float → List Float
+sort_from ys xs = foldl (λ (zs : List Float) (x : Float). insert_of x zs) ys xs
+
 from_perm : (xs ys : List Float) → Permᴰ (sort_from ys xs) (xs ++ ys)
 from_perm [] ys = Permᴰ.refl ys
 from_perm (x ∷ xs) ys = Permᴰ.trans (from_perm xs (insert_of x ys)) (Permᴰ.trans (Permᴰ.append_left xs (insert_perm x ys)) (Permᴰ.middle x xs ys))
@@ -135,36 +53,6 @@ unfolding sorted_of
 sorted_perm xs = Permᴰ.trans (from_perm xs []) (Permᴰ.append-nil xs)
 
 -- ---- in order
-
--- less one way (l), or level (e) and then less by the sign (d): not the other way (l', e', d')
-one_way : (l l' e e' d d' : Bool) → (T l → T l' → ⊥) → (T l → T e' → ⊥) → (T e → T l' → ⊥) → (T d → T d' → ⊥) → (l || (e && d)) ≡ true → (l' || (e' && d')) ≡ false
-one_way l true e e' d d' p q r s t = absurd (by l e d p r t)
-  where
-    by : (l e d : Bool) → (T l → Unit {0} → ⊥) → (T e → Unit {0} → ⊥) → (l || (e && d)) ≡ true → ⊥
-    by true e d p r t = p tt tt
-    by false true d p r t = r tt tt
-    by false false d p r t = true≢false (sym t)
-one_way l false e false d d' p q r s t = refl
-one_way l false e true d false p q r s t = refl
-one_way l false e true d true p q r s t = absurd (by l e d q s t)
-  where
-    by : (l e d : Bool) → (T l → Unit {0} → ⊥) → (T d → Unit {0} → ⊥) → (l || (e && d)) ≡ true → ⊥
-    by true e d q s t = q tt tt
-    by false true true q s t = s tt tt
-    by false true false q s t = true≢false (sym t)
-    by false false d q s t = true≢false (sym t)
-
-precedes_asym : (x y : Float) → precedes x y ≡ true → precedes y x ≡ false
-unfolding precedes
-precedes_asym x y t =
-    one_way (lt x y) (lt y x) (eq x y) (eq y x) (lt (div binary64 one x) (div binary64 one y)) (lt (div binary64 one y) (div binary64 one x))
-    (lt_asym x y)
-    (λ l e. T_not (lt x y) (eq→not_lt y x e) l)
-    (λ e l. T_not (lt y x) (eq→not_lt x y e) l)
-    (lt_asym (div binary64 one x) (div binary64 one y))
-    t
-
--- ---- all in order
 
 -- `Ordered` and what holds of each number, in the word `All` of the leaves' laws
 abbrev InOrder : List Float → Type 0
@@ -182,39 +70,6 @@ all Q (x ∷ xs) h = (h.0, all Q xs h.1)
 ordered : (xs : List Float) → InOrder xs → Ordered xs
 ordered [] h = tt
 ordered (x ∷ xs) h = (each (λ (y : Float). precedes y x ≡ false) xs h.0, ordered xs h.1)
-
--- neither less (l), nor level (e) and less by the sign (d)
-parts : (l e d : Bool) → (l || (e && d)) ≡ false → T (not l) × (T e → T (not d))
-parts true e d t = absurd (true≢false t)
-parts false true d t = (tt, λ h. subst (λ (b : Bool). T (not b)) (sym t) tt)
-parts false false d t = (tt, λ h. absurd h)
-
-whole : (l e d : Bool) → T (not l) → (T e → T (not d)) → (l || (e && d)) ≡ false
-whole true e d p q = absurd p
-whole false true true p q = absurd (q tt)
-whole false true false p q = refl
-whole false false d p q = refl
-
--- x is at most y and y at most z. Where z and x are level, y is level with both, and one over each of them is in order
--- too.
-precedes_not_trans : (x y z : Float) → Numeric x → Numeric y → Numeric z → precedes y x ≡ false → precedes z y ≡ false → precedes z x ≡ false
-unfolding precedes
-precedes_not_trans x y z hx hy hz p q =
-    let over : Float → Float = div binary64 one in
-    let held : (w : Float) → T (fits binary64 (div binary64 one w)) = div-fits binary64 one in
-    let p' = parts (lt y x) (eq y x) (lt (over y) (over x)) p in
-    let q' = parts (lt z y) (eq z y) (lt (over z) (over y)) q in
-    let xy : T (le x y) = not_lt→le y x hy.1 hx.1 p'.0 in
-    let yz : T (le y z) = not_lt→le z y hz.1 hy.1 q'.0 in
-    whole (lt z x) (eq z x) (lt (over z) (over x)) (le→not_lt x z (float_le_trans binary64 x y z hx.0 hy.0 hz.0 xy yz))
-    (λ e.
-    let zx : T (le z x) = eq→le z x e in
-    let yx : T (eq y x) = le_antisym y x (float_le_trans binary64 y z x hy.0 hz.0 hx.0 yz zx) xy in
-    let zy : T (eq z y) = le_antisym z y (float_le_trans binary64 z x y hz.0 hx.0 hy.0 zx xy) yz in
-    le→not_lt (over x) (over z)
-    (float_le_trans binary64 (over x) (over y) (over z) (held x) (held y) (held z)
-    (not_lt→le (over y) (over x) (one_over_number y hy.1) (one_over_number x hx.1) (p'.1 yx))
-    (not_lt→le (over z) (over y) (one_over_number z hz.1) (one_over_number y hy.1) (q'.1 zy))))
 
 insert_all : (Q : Float → Type 0) (x : Float) (ys : List Float) → Q x → All Q ys → All Q (insert_of x ys)
 insert_all Q x ys p h = all_perm Q (Permᴰ.symm (insert_perm x ys)) (p, h)
@@ -242,6 +97,89 @@ sorted_in_order xs h =
 
 pub sorted_ordered : (xs : List Float) → AllByRecursion Numeric xs → Ordered (sorted_of xs)
 sorted_ordered xs h = ordered (sorted_of xs) (sorted_in_order xs (all Numeric xs h))
+
+-- ---- no other list is in order with the same numbers
+
+-- none of those that come after y, which x precedes, is at most x
+above : (x y : Float) → Numeric x → Numeric y → precedes x y ≡ true → (zs : List Float) → All Numeric zs → All (λ (z : Float). precedes z y ≡ false) zs → All (λ (z : Float). precedes x z ≡ true) zs
+above x y hx hy t [] ns h = tt
+above x y hx hy t (z ∷ zs) ns h = (by (precedes x z) refl, above x y hx hy t zs ns.1 h.1)
+  where
+    by : (b : Bool) → precedes x z ≡ b → b ≡ true
+    by true e = refl
+    by false e = absurd (true≢false (sym t ∙ precedes_not_trans y z x hy ns.0 hx h.0 e))
+
+-- 1 for a number that x does not precede
+abbrev unless : Bool → ℕ
+unless true = 0
+unless false = 1
+
+abbrev at_most : Float → Float → ℕ
+at_most x z = unless (precedes x z)
+
+none_at_most : (x : Float) (zs : List Float) → All (λ (z : Float). precedes x z ≡ true) zs → sum_by (at_most x) zs ≡ 0
+none_at_most x [] h = refl
+none_at_most x (z ∷ zs) h =
+    let none : at_most x z ≡ 0 = ap unless h.0 in
+    omega (arith, sum_by-cons (at_most x) z zs, none_at_most x zs h.1)
+
+itself : (x : Float) → at_most x x ≡ 1
+itself x = by (precedes x x) refl
+  where
+    by : (b : Bool) → precedes x x ≡ b → unless b ≡ 1
+    by true e = absurd (true≢false (sym e ∙ precedes_asym x x e))
+    by false e = refl
+
+-- the first of a list in order precedes no number of another with the same numbers
+not_below : (x y : Float) (xs ys : List Float) → Numeric x → All Numeric (y ∷ ys) → InOrder (y ∷ ys) → ((f : Float → ℕ) → sum_by f (x ∷ xs) ≡ sum_by f (y ∷ ys)) → precedes x y ≡ false
+not_below x y xs ys hx hy o same = by (precedes x y) refl
+  where
+    by : (b : Bool) → precedes x y ≡ b → b ≡ false
+    by false e = refl
+    by true e =
+        absurd (let none = none_at_most x (y ∷ ys) (e, above x y hx hy.0 e ys hy.1 o.0) in
+        omega (arith, same (at_most x), sum_by-cons (at_most x) x xs, itself x))
+
+one_order : (xs ys : List Float) → All Numeric xs → All Numeric ys → InOrder xs → InOrder ys → ((f : Float → ℕ) → sum_by f xs ≡ sum_by f ys) → xs ≡ ys
+one_order [] [] ns ms o p same = refl
+one_order [] (y ∷ ys) ns ms o p same = absurd (omega (arith, same (λ (z : Float). 1), sum_by-cons (λ (z : Float). 1) y ys))
+one_order (x ∷ xs) [] ns ms o p same = absurd (omega (arith, same (λ (z : Float). 1), sum_by-cons (λ (z : Float). 1) x xs))
+one_order (x ∷ xs) (y ∷ ys) ns ms o p same =
+    let e : x ≡ y = level_same x y ns.0 ms.0 (not_below x y xs ys ns.0 ms p same) (not_below y x ys xs ms.0 ns o (λ f. sym (same f))) in
+    let rest : (f : Float → ℕ) → sum_by f xs ≡ sum_by f ys = λ f. omega (arith, same f, sum_by-cons f x xs, sum_by-cons f y ys, ap f e) in
+    λ i. e i ∷ one_order xs ys ns.1 ms.1 o.1 p.1 rest i
+
+-- each step of a list in order
+later_all : (y z : Float) (zs : List Float) → All Numeric (y ∷ z ∷ zs) → precedes z y ≡ false → All (λ (w : Float). precedes w z ≡ false) zs → All (λ (w : Float). precedes w y ≡ false) zs
+later_all y z [] ns e h = tt
+later_all y z (w ∷ zs) ns e h = (precedes_not_trans y z w ns.0 ns.1.0 ns.1.1.0 e h.0, later_all y z zs (ns.0, (ns.1.0, ns.1.1.1)) e h.1)
+
+in_order : (ys : List Float) → All Numeric ys → ((k : ℕ) → k + 1 < length ys → precedes (get_or ys (k + 1) nan) (get_or ys k nan) ≡ false) → InOrder ys
+in_order [] ns h = tt
+in_order (y ∷ []) ns h = (tt, tt)
+in_order (y ∷ z ∷ zs) ns h =
+    let e : precedes z y ≡ false = h 0 (omega arith) in
+    let rest : InOrder (z ∷ zs) = in_order (z ∷ zs) ns.1 (λ k lt. simp unary_clauses (simp unary_clauses at (h (k + 1) (omega arith)))) in
+    ((e, later_all y z zs ns e rest.0), rest)
+
+sum_by_perm : (f : Float → ℕ) {xs ys : List Float} → Permᴰ xs ys → sum_by f xs ≡ sum_by f ys
+sum_by_perm f Permᴰ.nil = refl
+sum_by_perm f (Permᴰ.cons {a = a} {b = b} {l₁ = xs} {l₂ = ys} e d) = omega (arith, sum_by-cons f a xs, sum_by-cons f b ys, ap f e, sum_by_perm f d)
+sum_by_perm f (Permᴰ.swap {a = a} {b = b} {a' = c} {b' = d} {l = l} e₁ e₂) =
+    omega (arith, sum_by-cons f a (b ∷ l), sum_by-cons f b l, sum_by-cons f c (d ∷ l), sum_by-cons f d l, ap f e₁, ap f e₂)
+sum_by_perm f (Permᴰ.trans d₁ d₂) = sum_by_perm f d₁ ∙ sum_by_perm f d₂
+
+-- what the library's sort by `key_order` leaves of numbers
+pub sorted_alone : (xs ys : List Float) → AllByRecursion Numeric xs → IsPermutation xs ys → ((k : ℕ) → k + 1 < length ys → is_lt (key_order (get_or ys (k + 1) nan) (get_or ys k nan)) ≡ false) → ys ≡ sorted_of xs
+sorted_alone xs ys h same steps =
+    let ns : All Numeric xs = all Numeric xs h in
+    let each_of = All-permutation Numeric xs ys same (All-from_recursion Numeric xs h) in
+    let at : (k : ℕ) → k < length ys → Numeric (get_or ys k nan) = λ k lt. All-get_or Numeric ys k nan lt each_of in
+    let ms : All Numeric ys = all Numeric ys (recursion_from_All Numeric ys each_of) in
+    one_order ys (sorted_of xs) ms (all_perm Numeric (Permᴰ.symm (sorted_perm xs)) ns)
+    (in_order ys ms (λ k lt. not_less (get_or ys k nan) (get_or ys (k + 1) nan) (at k (omega arith)) (at (k + 1) lt) (steps k lt)))
+    (sorted_in_order xs ns)
+    (λ f. sum_by-IsPermutation f xs ys same ∙ sym (sum_by_perm f (sorted_perm xs)))
 
 -- ---- the corner angles of a call
 

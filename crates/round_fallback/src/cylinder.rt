@@ -1,268 +1,210 @@
 // The round fallback of faces.rs, up to the middle angle and height.
-ghost use Rattle.std.specs.Prelude.{◌∷◌, ◌++◌, map, ◌≡◌, ◌-◌, ◌≤◌, ◌<◌, eqb, length, take, drop};
+ghost use Rattle.std.specs.Prelude.{◌≡◌, ◌≤◌, map, length, take};
+ghost use Rattle.std.specs.List.{AllByRecursion};
 ghost use Rattle.leaves.specs.Wrap.{rem_tau};
 ghost use Rattle.points.specs.Bounds.{least, greatest};
-ghost use Rattle.points.specs.Segments.{between};
-ghost use Rattle.answers.specs.Answers.{middle_paper, is_middle};
-ghost use Rattle.round_fallback.specs.Cylinder.{round_wrong, heights_wrong, precedes as precedes_of, insert_of, sorted_of, is_near, kept_of, corner_angles, gap_of, wider as wider_of, widest_of, opposite as opposite_of, middle_height, middle_among, cylinder_point_of};
+ghost use Rattle.answers.specs.Answers.{middle_paper};
+ghost use Rattle.round_fallback.specs.Sorted.{Numeric};
+ghost use Rattle.round_fallback.specs.Cylinder.{round_wrong, heights_wrong, sorted_of, is_near, kept_of, corner_angles, gap_of, wider as wider_of, widest_of, opposite as opposite_of, middle_height, middle_among, cylinder_point_of};
 
-use answers::{ARGUMENT_LIMIT, MiddleAnswer, any_number_beyond};
+use answers::{ARGUMENT_LIMIT, Middle, Refusal, any_number_beyond};
 use leaves::constants::{MICRO, PI, TAU};
+use points::{Between, segments};
+use std::cmp::OrderedFloat;
 
 // As document 01 limits heights and angles.
 const MOST_OF_EITHER: usize = 256;
 
 // An empty stretch between two corner angles, and where it begins.
-#[derive(Clone, Copy)]
+#[derive(Clone, Copy, Debug, PartialEq)]
 pub struct Stretch {
     pub gap: f64,
     pub from: f64,
 }
 
-// The least and the greatest of numbers.
-#[derive(Clone, Copy)]
-pub struct Extent {
-    pub lowest: f64,
-    pub highest: f64,
-}
-
 // 16: a number of either list is beyond 2^20.
+#[tactic(auto, unfolding(crate::specs::Cylinder::round_wrong))]
 fn round_wrong(heights: &[f64], angles: &[f64]) -> bool
     ensures { result ≡ round_wrong heights.now angles.now }
 {
-    if any_number_beyond(ARGUMENT_LIMIT, heights) {
-        true
-    } else {
-        any_number_beyond(ARGUMENT_LIMIT, angles)
-    }
+    any_number_beyond(ARGUMENT_LIMIT, heights) || any_number_beyond(ARGUMENT_LIMIT, angles)
 }
 
-// The least and the greatest of the list; infinities of none.
-fn extent_of(list: &[f64]) -> Extent
-    ensures { (result.lowest ≡ least list.now) × (result.highest ≡ greatest list.now) }
+// The least of the list; infinity of none.
+#[tactic(auto, using(crate::proofs::Extremes::extremes))]
+fn least(list: &[f64]) -> f64
+    ensures { result ≡ least list.now }
 {
-    let mut lowest = 1.0 / 0.0;
-    let mut highest = -1.0 / 0.0;
-    let mut k = 0;
-    while k < list.len() {
-        let x = list[k];
-        lowest = leaves::smaller_of(lowest, x);
-        highest = leaves::larger_of(highest, x);
-        k += 1;
-    }
-    Extent {
-        lowest: lowest,
-        highest: highest,
-    }
+    list.iter()
+        .fold(f64::INFINITY, |found, x| leaves::smaller_of(found, *x))
+}
+
+// The greatest of the list; minus infinity of none.
+#[tactic(auto, using(crate::proofs::Extremes::extremes))]
+fn greatest(list: &[f64]) -> f64
+    ensures { result ≡ greatest list.now }
+{
+    list.iter()
+        .fold(f64::NEG_INFINITY, |found, x| leaves::larger_of(found, *x))
 }
 
 // 22: no heights, over 256 of either, or a spread of at most 1e-6.
+#[tactic(auto, using(leaves::proofs::ConstantBits::micro_bits), unfolding(crate::specs::Cylinder::heights_wrong))]
 fn heights_wrong(heights: &[f64], angles: &[f64]) -> bool
     ensures { result ≡ heights_wrong heights.now angles.now }
 {
-    if heights.len() == 0 {
-        true
-    } else if MOST_OF_EITHER < heights.len() {
-        true
-    } else if MOST_OF_EITHER < angles.len() {
-        true
-    } else {
-        let e = extent_of(heights);
-        e.highest - e.lowest <= MICRO
-    }
+    heights.is_empty()
+        || MOST_OF_EITHER < heights.len()
+        || MOST_OF_EITHER < angles.len()
+        || greatest(heights) - least(heights) <= MICRO
 }
 
-// The total order: less, or -0 before +0. One over a zero tells its sign.
-fn precedes(a: f64, b: f64) -> bool
-    ensures { result ≡ precedes_of a b }
+// The numbers in the total order: that of the numbers, and -0 before +0. One over a zero tells its sign.
+fn sort(list: &mut [f64])
+    requires { AllByRecursion Numeric list.old }
+    ensures { list.new ≡ sorted_of list.old }
 {
-    if a < b {
-        true
-    } else if a == b {
-        1.0 / a < 1.0 / b
-    } else {
-        false
-    }
-}
-
-// Where x goes among the numbers: before the first that it precedes.
-fn place_of(x: f64, list: &[f64]) -> usize
-    ensures { (result ≤ length list.now) × (insert_of x list.now ≡ take result list.now ++ x ∷ drop result list.now) }
-{
-    let mut k = 0;
-    while k < list.len() {
-        if precedes(x, list[k]) {
-            return k;
-        }
-        k += 1;
-    }
-    k
-}
-
-// x in its place among the numbers before the last one, whose place is free.
-fn insert(x: f64, list: &mut [f64])
-    requires { 0 < length list.old }
-    ensures { list.new ≡ insert_of x (take (length list.old - 1) list.old) }
-{
-    let last = list.len() - 1;
-    let at = place_of(x, &list[..last]);
-    let mut k = last;
-    while at < k {
-        list[k] = list[k - 1];
-        k -= 1;
-    }
-    list[at] = x;
-}
-
-// The angles, each reduced to a turn, in order, over a list that has room for just them.
-fn sort(angles: &[f64], sorted: &mut [f64])
-    requires { length sorted.old ≡ length angles.now }
-    ensures { sorted.new ≡ sorted_of (map rem_tau angles.now) }
-{
-    let mut k = 0;
-    while k < angles.len() {
-        let end = k + 1;
-        insert(leaves::rem_tau(angles[k]), &mut sorted[..end]);
-        k = end;
-    }
+    list.sort_unstable_by_key(|x| (OrderedFloat(*x), OrderedFloat(1.0 / *x)));
 }
 
 // Whether two angles are nearer than 1e-6.
+#[tactic(auto, using(leaves::proofs::ConstantBits::micro_bits), unfolding(crate::specs::Cylinder::is_near))]
 fn is_near(a: f64, b: f64) -> bool
     ensures { result ≡ is_near a b }
 {
     let d = a - b;
-    if d < MICRO { -d < MICRO } else { false }
+    d < MICRO && -d < MICRO
 }
 
-// Those that are not near the last one kept, over the front of a list that has room; how many they are.
-fn keep(sorted: &[f64], kept: &mut [f64]) -> usize
-    requires { length kept.old ≡ length sorted.now }
-    ensures { (result ≤ length kept.new) × (take result kept.new ≡ kept_of sorted.now) }
+// Those that are not near the last one kept, over the front of the list.
+fn keep(sorted: &mut [f64]) -> &[f64]
+    ensures { result.now ≡ kept_of sorted.old }
 {
-    if sorted.len() == 0 {
-        return 0;
-    }
-    let mut last = sorted[0];
-    kept[0] = last;
-    let mut count = 1usize;
-    let mut k = 1;
-    while k < sorted.len() {
+    let Some(first) = sorted.first() else {
+        return sorted;
+    };
+    let mut last = *first;
+    let mut count = 1;
+    for k in 1..sorted.len() {
         let x = sorted[k];
         if !is_near(x, last) {
-            kept[count] = x;
+            sorted[count] = x;
             count += 1;
             last = x;
         }
-        k += 1;
     }
-    count
+    &sorted[..count]
+}
+
+// Each of the angles reduced to a turn.
+fn reduce(angles: &mut [f64])
+    ensures { angles.new ≡ map rem_tau angles.old }
+{
+    for angle in angles.iter_mut() {
+        *angle = leaves::rem_tau(*angle);
+    }
+}
+
+// The corner angles, each reduced to a turn, in order, over a list that has room for just the angles.
+#[tactic(auto, unfolding(crate::specs::Cylinder::corner_angles))]
+fn corner_angles<'a>(angles: &[f64], turned: &'a mut [f64]) -> &'a [f64]
+    requires room { length turned.old ≡ length angles.now }
+    requires numbers { AllByRecursion Numeric (map rem_tau angles.now) }
+    ensures { result.now ≡ corner_angles angles.now }
+{
+    turned.copy_from_slice(angles);
+    reduce(turned);
+    sort(turned);
+    keep(turned)
 }
 
 // The stretch from one of `count` corner angles to the next.
-fn gap(count: usize, from: f64, to: f64) -> f64
-    ensures { result ≡ gap_of count (between from to) }
+#[tactic(auto, unfolding(crate::specs::Cylinder::gap_of))]
+fn gap(count: usize, s: Between<f64>) -> f64
+    ensures { result ≡ gap_of count s }
 {
     if count == 1 {
         TAU
     } else {
-        leaves::rem_tau(to - from)
+        leaves::rem_tau(s.b - s.a)
     }
 }
 
-fn wider(count: usize, best: Stretch, from: f64, to: f64) -> Stretch
-    ensures { result ≡ wider_of count best (between from to) }
-{
-    let next = gap(count, from, to);
-    if best.gap < next {
-        Stretch {
-            gap: next,
-            from: from,
+impl Stretch {
+    // The wider one of the stretch and the next, of equal ones the first.
+    #[tactic(auto, unfolding(crate::specs::Cylinder::wider))]
+    fn or_wider(self, count: usize, s: Between<f64>) -> Stretch
+        ensures { result ≡ wider_of count self s }
+    {
+        let gap = gap(count, s);
+        if self.gap < gap {
+            Stretch { gap, from: s.a }
+        } else {
+            self
         }
-    } else {
-        best
+    }
+
+    // The middle of what the stretch leaves.
+    #[tactic(auto, unfolding(crate::specs::Cylinder::opposite))]
+    fn opposite(self) -> f64
+        ensures { result ≡ opposite_of self }
+    {
+        self.from + self.gap + (TAU - self.gap) / 2.0
     }
 }
 
 // The widest empty stretch, the first of equal ones.
+#[tactic(auto, unfolding(crate::specs::Cylinder::widest_of))]
 fn widest(angles: &[f64]) -> Stretch
     ensures { result ≡ widest_of angles.now }
 {
-    let count = angles.len();
-    let mut best = Stretch {
+    let none = Stretch {
         gap: 0.0,
         from: 0.0,
     };
-    if count == 0 {
-        return best;
-    }
-    let start = angles[0];
-    let mut from = start;
-    let mut k = 1;
-    while k < count {
-        let to = angles[k];
-        best = wider(count, best, from, to);
-        from = to;
-        k += 1;
-    }
-    wider(count, best, from, start)
+    segments(angles).fold(none, |best, s| best.or_wider(angles.len(), s))
 }
 
-// The middle of what the stretch leaves.
-fn opposite(w: Stretch) -> f64
-    ensures { result ≡ opposite_of w }
-{
-    w.from + w.gap + (TAU - w.gap) / 2.0
-}
-
+#[tactic(auto, unfolding(crate::specs::Cylinder::middle_height))]
 fn middle_height(heights: &[f64]) -> f64
     ensures { result ≡ middle_height heights.now }
 {
-    let e = extent_of(heights);
-    (e.lowest + e.highest) / 2.0
+    (least(heights) + greatest(heights)) / 2.0
 }
 
 // The answer of the heights and the corner angles; 23: the middle is unclear.
-fn middle(heights: &[f64], angles: &[f64]) -> MiddleAnswer
-    ensures { (middle_paper result ≡ middle_among heights.now angles.now) × (is_middle result ≡ eqb (middle_paper result).status 0) }
+#[tactic(auto, using(leaves::proofs::ConstantBits::micro_bits), unfolding(crate::specs::Cylinder::middle_among, crate::specs::Cylinder::unclear, crate::specs::Cylinder::middle_angle, answers::specs::Outcome::settled, answers::specs::Outcome::first, answers::specs::Outcome::number_of, answers::specs::Answers::paper_by))]
+fn middle(heights: &[f64], angles: &[f64]) -> Result<Middle, Refusal>
+    ensures { middle_paper result ≡ middle_among heights.now angles.now }
 {
     let w = widest(angles);
+    let height = middle_height(heights);
     if angles.len() == 1 {
-        return MiddleAnswer::Middle(w.from + PI, middle_height(heights));
+        return Ok(Middle {
+            angle: w.from + PI,
+            height,
+        });
     }
     if PI + MICRO < w.gap {
-        return MiddleAnswer::Middle(opposite(w), middle_height(heights));
+        return Ok(Middle {
+            angle: w.opposite(),
+            height,
+        });
     }
-    MiddleAnswer::Refused(23)
-}
-
-// The answer, over two lists that have room for just the angles.
-fn middle_over(
-    heights: &[f64],
-    angles: &[f64],
-    sorted: &mut [f64],
-    kept: &mut [f64],
-) -> MiddleAnswer
-    requires { (length sorted.old ≡ length angles.now) × (length kept.old ≡ length angles.now) }
-    ensures { (middle_paper result ≡ middle_among heights.now (corner_angles angles.now)) × (is_middle result ≡ eqb (middle_paper result).status 0) }
-{
-    sort(angles, sorted);
-    let count = keep(sorted, kept);
-    middle(heights, &kept[..count])
+    Err(Refusal::MiddleUnclear)
 }
 
 // The middle angle and height of a round face, from the heights and angles of its corners.
-pub fn cylinder_point(heights: &[f64], angles: &[f64]) -> MiddleAnswer
-    ensures { (middle_paper result ≡ cylinder_point_of heights.now angles.now) × (is_middle result ≡ eqb (middle_paper result).status 0) }
+#[tactic(auto, using(crate::proofs::Sorting::turned_numeric, crate::proofs::Refusals::few_angles), unfolding(crate::specs::Cylinder::cylinder_point_of, answers::specs::Outcome::settled, answers::specs::Outcome::first, answers::specs::Outcome::number_of, answers::specs::Answers::paper_by))]
+pub fn cylinder_point(heights: &[f64], angles: &[f64]) -> Result<Middle, Refusal>
+    ensures { middle_paper result ≡ cylinder_point_of heights.now angles.now }
 {
     if round_wrong(heights, angles) {
-        return MiddleAnswer::Refused(16);
+        return Err(Refusal::Argument);
     }
     if heights_wrong(heights, angles) {
-        return MiddleAnswer::Refused(22);
+        return Err(Refusal::Heights);
     }
-    let n = angles.len();
-    let mut sorted = [0.0f64; MOST_OF_EITHER];
-    let mut kept = [0.0f64; MOST_OF_EITHER];
-    middle_over(heights, angles, &mut sorted[..n], &mut kept[..n])
+    let mut turned = [0.0; MOST_OF_EITHER];
+    middle(heights, corner_angles(angles, &mut turned[..angles.len()]))
 }

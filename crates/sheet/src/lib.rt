@@ -15,4 +15,4 @@ pub use fields::{
     SMALL_POINTS, byte_at, head_size, number,
 };
 pub use parts::{BlockCoedges, CoedgePoints, RingBlocks, coedges, points, ring_blocks};
-pub use point::Point;
+pub use point::{ORIGIN, Point};

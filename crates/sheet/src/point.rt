@@ -6,3 +6,6 @@ pub struct Point {
     pub u: f64,
     pub v: f64,
 }
+
+// Zeros, as they stand in a list before its points do.
+pub const ORIGIN: Point = Point { u: 0.0, v: 0.0 };

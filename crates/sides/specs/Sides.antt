@@ -10,8 +10,10 @@ use Rattle.space.specs.Vectors.{minus_of, distance_of, length_of, unit_of, unit_
 use Rattle.space.specs.declared.vectors.Place.{Place}
 use Rattle.answers.specs.Limits.{beyond, argument_limit}
 use Rattle.answers.specs.Lists.{any_of}
+use Rattle.sides.specs.declared.side.Sphere.{Sphere}
+use Rattle.sides.specs.declared.side.Side.{Side}
 
--- ---- the arrays: three sides by two ends by three coordinates; three circles by centre and radius; three ranges by
+-- ---- a side's arrays: two ends by three coordinates, as the edge has them and as the host evaluated them; a range's
 -- two ends
 
 -- an end of a side
@@ -23,53 +25,56 @@ end_of ends k = place_at (get_or ends k []) 0
 unfoldable pub place_beyond : Place → Bool
 place_beyond p = beyond argument_limit p.x || beyond argument_limit p.y || beyond argument_limit p.z
 
-unfoldable pub sphere_wrong : Place → Float → ℕ → Bool
-unfolding place_beyond lt
-sphere_wrong centre radius sense = place_beyond centre || beyond argument_limit radius || not (lt plus_zero radius) || ltb 2 sense
+-- of a sphere or a circle
+unfoldable pub sphere_beyond : Sphere → Bool
+unfolding place_beyond
+sphere_beyond s = place_beyond s.centre || beyond argument_limit s.radius
 
-unfoldable pub sides_beyond : List (List (List Float)) → List (List Float) → List (List Float) → List (List (List Float)) → Bool
-sides_beyond ends circles ranges evaluated =
-    any_of (any_of (any_of (beyond argument_limit))) ends
-    || any_of (any_of (beyond argument_limit)) circles
-    || any_of (any_of (beyond argument_limit)) ranges
-    || any_of (any_of (any_of (beyond argument_limit))) evaluated
+unfoldable pub sphere_wrong : Sphere → ℕ → Bool
+unfolding sphere_beyond lt
+sphere_wrong sphere sense = sphere_beyond sphere || not (lt plus_zero sphere.radius) || ltb 2 sense
+
+unfoldable pub side_beyond : Side → Bool
+unfolding sphere_beyond
+side_beyond side =
+    any_of (any_of (beyond argument_limit)) side.ends
+    || sphere_beyond side.circle
+    || any_of (beyond argument_limit) side.range
+    || any_of (any_of (beyond argument_limit)) side.evaluated
+
+unfoldable pub sides_beyond : List Side → Bool
+unfolding side_beyond
+sides_beyond sides = any_of side_beyond sides
 
 -- ---- 17: "circle centre or radius off by over r × 1e-6; sweep over PI; an evaluated end off its end, or an end off
 -- the sphere, by over r × 1e-5; `unit` fails"
 
-unfoldable pub circle_wrong : Place → Float → Place → Float → Bool
+unfoldable pub circle_wrong : Sphere → Sphere → Bool
 unfolding lt sub mul
-circle_wrong centre radius circle circle_radius = lt (mul binary64 radius micro) (distance_of circle centre) || exceeds_of (sub binary64 circle_radius radius) (mul binary64 radius micro)
+circle_wrong sphere circle = lt (mul binary64 sphere.radius micro) (distance_of circle.centre sphere.centre) || exceeds_of (sub binary64 circle.radius sphere.radius) (mul binary64 sphere.radius micro)
 
 unfoldable pub sweep_wrong : Float → Float → Bool
 unfolding sub
 sweep_wrong from to = exceeds_of (sub binary64 to from) pi
 
 -- an end, as the edge has it, and the host's evaluated one
-unfoldable pub end_wrong : Place → Float → Place → Place → Bool
+unfoldable pub end_wrong : Sphere → Place → Place → Bool
 unfolding lt sub mul
-end_wrong centre radius end evaluated =
-    lt (mul binary64 radius end_limit) (distance_of evaluated end)
-    || exceeds_of (sub binary64 (length_of (minus_of end centre)) radius) (mul binary64 radius end_limit)
-    || unit_fails (unit_of (minus_of end centre))
+end_wrong sphere end evaluated =
+    lt (mul binary64 sphere.radius end_limit) (distance_of evaluated end)
+    || exceeds_of (sub binary64 (length_of (minus_of end sphere.centre)) sphere.radius) (mul binary64 sphere.radius end_limit)
+    || unit_fails (unit_of (minus_of end sphere.centre))
 
 -- a side
-unfoldable pub side_wrong : Place → Float → List (List Float) → List Float → List Float → List (List Float) → Bool
+unfoldable pub side_wrong : Sphere → Side → Bool
 unfolding circle_wrong sweep_wrong end_wrong
-side_wrong centre radius ends circle range evaluated =
-    circle_wrong centre radius (place_at circle 0) (get_or circle 3 nan)
-    || sweep_wrong (get_or range 0 nan) (get_or range 1 nan)
-    || end_wrong centre radius (end_of ends 0) (end_of evaluated 0)
-    || end_wrong centre radius (end_of ends 1) (end_of evaluated 1)
+side_wrong sphere side =
+    circle_wrong sphere side.circle
+    || sweep_wrong (get_or side.range 0 nan) (get_or side.range 1 nan)
+    || end_wrong sphere (end_of side.ends 0) (end_of side.evaluated 0)
+    || end_wrong sphere (end_of side.ends 1) (end_of side.evaluated 1)
 
--- the kth of the three
-unfoldable pub side_wrong_at : ℕ → Place → Float → List (List (List Float)) → List (List Float) → List (List Float) → List (List (List Float)) → Bool
+-- any of the three
+unfoldable pub sides_wrong : Sphere → List Side → Bool
 unfolding side_wrong
-side_wrong_at k centre radius ends circles ranges evaluated = side_wrong centre radius (get_or ends k []) (get_or circles k []) (get_or ranges k []) (get_or evaluated k [])
-
-unfoldable pub sides_wrong : Place → Float → List (List (List Float)) → List (List Float) → List (List Float) → List (List (List Float)) → Bool
-unfolding side_wrong_at
-sides_wrong centre radius ends circles ranges evaluated =
-    side_wrong_at 0 centre radius ends circles ranges evaluated
-    || side_wrong_at 1 centre radius ends circles ranges evaluated
-    || side_wrong_at 2 centre radius ends circles ranges evaluated
+sides_wrong sphere sides = any_of (side_wrong sphere) sides

@@ -1,11 +1,11 @@
 // The sphere and the sides of a triangle, as `spherical_triangle` of uv.rs checks them.
-ghost use Rattle.std.specs.Prelude.{◌||◌, ◌≡◌, get_or};
-ghost use Rattle.std.specs.Float.{nan};
+ghost use Rattle.std.specs.Prelude.{◌≡◌};
 ghost use Rattle.space.specs.Places.{place_at};
 ghost use Rattle.answers.specs.Limits.{beyond, argument_limit};
 ghost use Rattle.answers.specs.Lists.{any_of};
-ghost use Rattle.sides.specs.Sides.{place_beyond, sphere_wrong, sides_beyond, circle_wrong, end_wrong, side_wrong, sides_wrong};
+ghost use Rattle.sides.specs.Sides.{place_beyond, sphere_beyond, sphere_wrong, side_beyond, sides_beyond, circle_wrong, end_wrong, side_wrong, sides_wrong};
 
+use crate::side::{Side, Sphere};
 use answers::{ARGUMENT_LIMIT, any_number_beyond, is_beyond};
 use leaves::constants::{END_LIMIT, MICRO, PI};
 use space::Place;
@@ -14,160 +14,104 @@ use space::Place;
 pub fn place_of(p: [f64; 3]) -> Place
     ensures { result ≡ place_at p 0 }
 {
-    Place {
-        x: p[0],
-        y: p[1],
-        z: p[2],
-    }
+    let [x, y, z] = p;
+    Place { x, y, z }
 }
 
+#[tactic(auto, unfolding(crate::specs::Sides::place_beyond))]
 fn place_beyond(p: Place) -> bool
     ensures { result ≡ place_beyond p }
 {
-    if is_beyond(ARGUMENT_LIMIT, p.x) {
-        true
-    } else if is_beyond(ARGUMENT_LIMIT, p.y) {
-        true
-    } else {
-        is_beyond(ARGUMENT_LIMIT, p.z)
-    }
-}
-
-// 16, of the sphere.
-pub fn sphere_wrong(centre: Place, radius: f64, sense: u32) -> bool
-    ensures { result ≡ sphere_wrong centre radius sense }
-{
-    if place_beyond(centre) {
-        true
-    } else if is_beyond(ARGUMENT_LIMIT, radius) {
-        true
-    } else if !(0.0 < radius) {
-        true
-    } else {
-        2 < sense
-    }
+    is_beyond(ARGUMENT_LIMIT, p.x)
+        || is_beyond(ARGUMENT_LIMIT, p.y)
+        || is_beyond(ARGUMENT_LIMIT, p.z)
 }
 
 // 16, of a side's ends, or of the evaluated ones.
-fn ends_beyond(ends: [[f64; 3]; 2]) -> bool
-    ensures { result ≡ any_of (any_of (beyond argument_limit)) ends }
+fn ends_beyond(ends: &[[f64; 3]; 2]) -> bool
+    ensures { result ≡ any_of (any_of (beyond argument_limit)) ends.now }
 {
-    if any_number_beyond(ARGUMENT_LIMIT, &ends[0]) {
-        true
-    } else {
-        any_number_beyond(ARGUMENT_LIMIT, &ends[1])
+    ends.iter()
+        .any(|end| any_number_beyond(ARGUMENT_LIMIT, end))
+}
+
+impl Sphere {
+    // 16, of the centre and the radius.
+    #[tactic(auto, unfolding(crate::specs::Sides::sphere_beyond))]
+    fn is_beyond(self) -> bool
+        ensures { result ≡ sphere_beyond self }
+    {
+        place_beyond(self.centre) || is_beyond(ARGUMENT_LIMIT, self.radius)
+    }
+
+    // 16, of the sphere.
+    #[tactic(auto, unfolding(crate::specs::Sides::sphere_wrong))]
+    pub fn is_wrong(self, sense: u32) -> bool
+        ensures { result ≡ sphere_wrong self sense }
+    {
+        self.is_beyond() || !(0.0 < self.radius) || 2 < sense
+    }
+
+    // 17: the circle's centre or radius is off the sphere's by over r x 1e-6.
+    #[tactic(auto, using(leaves::proofs::ConstantBits::micro_bits), unfolding(crate::specs::Sides::circle_wrong))]
+    fn circle_wrong(self, circle: Sphere) -> bool
+        ensures { result ≡ circle_wrong self circle }
+    {
+        let limit = self.radius * MICRO;
+        limit < space::distance(circle.centre, self.centre)
+            || leaves::exceeds(circle.radius - self.radius, limit)
+    }
+
+    // 17: an evaluated end is off its end, or the end off the sphere, by over r x 1e-5, or `unit` fails.
+    #[tactic(auto, using(leaves::proofs::ConstantBits::end_limit_bits), unfolding(crate::specs::Sides::end_wrong))]
+    fn end_wrong(self, end: [f64; 3], evaluated: [f64; 3]) -> bool
+        ensures { result ≡ end_wrong self (place_at end 0) (place_at evaluated 0) }
+    {
+        let limit = self.radius * END_LIMIT;
+        let p = place_of(end);
+        let d = space::minus(p, self.centre);
+        limit < space::distance(place_of(evaluated), p)
+            || leaves::exceeds(space::length(d) - self.radius, limit)
+            || space::unit(d).is_none()
     }
 }
 
-// 16, of a side.
-fn side_beyond(
-    ends: [[f64; 3]; 2],
-    circle: [f64; 4],
-    range: [f64; 2],
-    evaluated: [[f64; 3]; 2],
-) -> bool
-    ensures { result ≡ (any_of (any_of (beyond argument_limit)) ends || any_of (beyond argument_limit) circle || any_of (beyond argument_limit) range || any_of (any_of (beyond argument_limit)) evaluated) }
-{
-    if ends_beyond(ends) {
-        true
-    } else if any_number_beyond(ARGUMENT_LIMIT, &circle) {
-        true
-    } else if any_number_beyond(ARGUMENT_LIMIT, &range) {
-        true
-    } else {
-        ends_beyond(evaluated)
+impl Side {
+    // 16, of a side.
+    #[tactic(auto, unfolding(crate::specs::Sides::side_beyond))]
+    fn is_beyond(&self) -> bool
+        ensures { result ≡ side_beyond self.now }
+    {
+        ends_beyond(&self.ends)
+            || self.circle.is_beyond()
+            || any_number_beyond(ARGUMENT_LIMIT, &self.range)
+            || ends_beyond(&self.evaluated)
+    }
+
+    // 17, of a side, whose ends are as the edge has them.
+    #[tactic(auto, unfolding(crate::specs::Sides::side_wrong, crate::specs::Sides::sweep_wrong))]
+    fn is_wrong(&self, sphere: Sphere) -> bool
+        ensures { result ≡ side_wrong sphere self.now }
+    {
+        sphere.circle_wrong(self.circle)
+            || leaves::exceeds(self.range[1] - self.range[0], PI)
+            || sphere.end_wrong(self.ends[0], self.evaluated[0])
+            || sphere.end_wrong(self.ends[1], self.evaluated[1])
     }
 }
 
 // 16, of the three sides.
-pub fn sides_beyond(
-    ends: [[[f64; 3]; 2]; 3],
-    circles: [[f64; 4]; 3],
-    ranges: [[f64; 2]; 3],
-    evaluated: [[[f64; 3]; 2]; 3],
-) -> bool
-    ensures { result ≡ sides_beyond ends circles ranges evaluated }
+#[tactic(auto, unfolding(crate::specs::Sides::sides_beyond))]
+pub fn sides_beyond(sides: &[Side; 3]) -> bool
+    ensures { result ≡ sides_beyond sides.now }
 {
-    if side_beyond(ends[0], circles[0], ranges[0], evaluated[0]) {
-        true
-    } else if side_beyond(ends[1], circles[1], ranges[1], evaluated[1]) {
-        true
-    } else {
-        side_beyond(ends[2], circles[2], ranges[2], evaluated[2])
-    }
-}
-
-// 17: the circle's centre or radius is off the sphere's by over r x 1e-6.
-fn circle_wrong(centre: Place, radius: f64, circle: [f64; 4]) -> bool
-    ensures { result ≡ circle_wrong centre radius (place_at circle 0) (get_or circle 3 nan) }
-{
-    let limit = radius * MICRO;
-    let p = Place {
-        x: circle[0],
-        y: circle[1],
-        z: circle[2],
-    };
-    if limit < space::distance(p, centre) {
-        true
-    } else {
-        leaves::exceeds(circle[3] - radius, limit)
-    }
-}
-
-// 17: an evaluated end is off its end, or the end off the sphere, by over r x 1e-5, or `unit` fails.
-fn end_wrong(centre: Place, radius: f64, end: [f64; 3], evaluated: [f64; 3]) -> bool
-    ensures { result ≡ end_wrong centre radius (place_at end 0) (place_at evaluated 0) }
-{
-    let limit = radius * END_LIMIT;
-    let p = place_of(end);
-    if limit < space::distance(place_of(evaluated), p) {
-        return true;
-    }
-    let d = space::minus(p, centre);
-    if leaves::exceeds(space::length(d) - radius, limit) {
-        return true;
-    }
-    space::fails(space::unit(d))
-}
-
-// 17, of a side, whose ends are as the edge has them.
-fn side_wrong(
-    centre: Place,
-    radius: f64,
-    ends: [[f64; 3]; 2],
-    circle: [f64; 4],
-    range: [f64; 2],
-    evaluated: [[f64; 3]; 2],
-) -> bool
-    ensures { result ≡ side_wrong centre radius ends circle range evaluated }
-{
-    if circle_wrong(centre, radius, circle) {
-        true
-    } else if leaves::exceeds(range[1] - range[0], PI) {
-        true
-    } else if end_wrong(centre, radius, ends[0], evaluated[0]) {
-        true
-    } else {
-        end_wrong(centre, radius, ends[1], evaluated[1])
-    }
+    sides.iter().any(|side| side.is_beyond())
 }
 
 // 17, of the three sides.
-pub fn sides_wrong(
-    centre: Place,
-    radius: f64,
-    ends: [[[f64; 3]; 2]; 3],
-    circles: [[f64; 4]; 3],
-    ranges: [[f64; 2]; 3],
-    evaluated: [[[f64; 3]; 2]; 3],
-) -> bool
-    ensures { result ≡ sides_wrong centre radius ends circles ranges evaluated }
+#[tactic(auto, unfolding(crate::specs::Sides::sides_wrong))]
+pub fn sides_wrong(sphere: Sphere, sides: &[Side; 3]) -> bool
+    ensures { result ≡ sides_wrong sphere sides.now }
 {
-    if side_wrong(centre, radius, ends[0], circles[0], ranges[0], evaluated[0]) {
-        true
-    } else if side_wrong(centre, radius, ends[1], circles[1], ranges[1], evaluated[1]) {
-        true
-    } else {
-        side_wrong(centre, radius, ends[2], circles[2], ranges[2], evaluated[2])
-    }
+    sides.iter().any(|side| side.is_wrong(sphere))
 }

@@ -2,5 +2,7 @@
 #![tactic(auto)]
 
 mod checks;
+mod side;
 
-pub use checks::{place_of, sides_beyond, sides_wrong, sphere_wrong};
+pub use checks::{place_of, sides_beyond, sides_wrong};
+pub use side::{Side, Sphere};

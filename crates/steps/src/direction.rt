@@ -1,47 +1,46 @@
 // The direction test in `edge_points` of uv.rs.
-ghost use Rattle.std.specs.Prelude.{◌≡◌, eqb};
-ghost use Rattle.answers.specs.Answers.{direction_paper, is_direction};
+ghost use Rattle.std.specs.Prelude.{◌≡◌};
+ghost use Rattle.answers.specs.Answers.{direction_numbers, direction_paper};
 ghost use Rattle.steps.specs.Direction.{keeps_of, directed, direction_of};
 
-use answers::{DirectionAnswer, is_missing};
+use answers::{Direction, Refusal, is_missing};
 use leaves::constants::{GREATEST_FINITE, JOIN_LIMIT};
 use space::Place;
 
 // Whether both images lie nearer to the ends than 1e-4.
+#[tactic(auto, using(leaves::proofs::ConstantBits::join_limit_bits), unfolding(crate::specs::Direction::keeps_of))]
 fn keeps(front: Place, back: Place, start: Place, end: Place) -> bool
     ensures { result ≡ keeps_of front back start end }
 {
-    if space::distance(front, start) < JOIN_LIMIT {
-        space::distance(back, end) < JOIN_LIMIT
-    } else {
-        false
-    }
+    space::distance(front, start) < JOIN_LIMIT && space::distance(back, end) < JOIN_LIMIT
 }
 
-fn direct(front: Place, back: Place, start: Place, end: Place) -> DirectionAnswer
-    ensures { (direction_paper result ≡ directed front back start end) × (is_direction result ≡ eqb (direction_paper result).status 0) }
+#[tactic(auto, unfolding(crate::specs::Direction::directed, crate::specs::Direction::reverses_of))]
+fn direct(front: Place, back: Place, start: Place, end: Place) -> Direction
+    ensures { direction_numbers result ≡ directed front back start end }
 {
-    if space::distance(back, start) < space::distance(front, start) {
-        DirectionAnswer::Direction(true, keeps(back, front, start, end))
-    } else if keeps(front, back, start, end) {
-        DirectionAnswer::Direction(false, true)
+    let reverse = space::distance(back, start) < space::distance(front, start);
+    let keep = if reverse {
+        keeps(back, front, start, end)
     } else {
-        DirectionAnswer::Direction(false, false)
-    }
+        keeps(front, back, start, end)
+    };
+    Direction { reverse, keep }
 }
 
 // Whether to reverse a coedge's points, and whether to keep them. `points` holds twelve numbers: the first
 // image, the last image, the start, the end.
-pub fn edge_direction(points: &[f64]) -> DirectionAnswer
-    ensures { (direction_paper result ≡ direction_of points.now) × (is_direction result ≡ eqb (direction_paper result).status 0) }
+#[tactic(auto, unfolding(crate::specs::Direction::direction_of, answers::specs::Outcome::settled, answers::specs::Outcome::first, answers::specs::Outcome::number_of, answers::specs::Answers::paper_by,))]
+pub fn edge_direction(points: &[f64]) -> Result<Direction, Refusal>
+    ensures { direction_paper result ≡ direction_of points.now }
 {
     if is_missing(12, GREATEST_FINITE, points) {
-        return DirectionAnswer::Refused(16);
+        return Err(Refusal::Argument);
     }
-    direct(
+    Ok(direct(
         space::place_at(points, 0),
         space::place_at(points, 3),
         space::place_at(points, 6),
         space::place_at(points, 9),
-    )
+    ))
 }

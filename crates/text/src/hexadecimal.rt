@@ -7,24 +7,25 @@ ghost use Rattle.text.specs.Digits.{hexadecimal, digits};
 ghost use Rattle.text.specs.Digits.{digit as digit_of};
 
 use crate::page::put_bytes;
+use std::num::f64_to_bits_with_nan;
 
 // The ASCII code of a digit.
-pub(crate) fn digit(d: u64) -> u8
+#[tactic(auto, unfolding(crate::specs::Digits::digit))]
+fn digit(d: u8) -> u8
     requires { d < 16 }
     ensures { result ≡ digit_of d }
 {
-    if d < 10 { 48 + d as u8 } else { 55 + d as u8 }
+    if d < 10 { b'0' + d } else { b'A' + (d - 10) }
 }
 
-fn hex(n: u64) -> [u8; 16]
+#[tactic(auto, using(crate::proofs::Fronts::digit_steps))]
+pub(crate) fn hex(n: u64) -> [u8; 16]
     ensures { result ≡ hexadecimal n }
 {
     let mut text = [0u8; 16];
     let mut rest = n;
-    let mut i = 16usize;
-    while 0 < i {
-        i -= 1;
-        text[i] = digit(rest % 16);
+    for i in (0..16).rev() {
+        text[i] = digit((rest % 16) as u8);
         rest /= 16;
     }
     text
@@ -35,17 +36,12 @@ pub fn put_hex(n: u64, at: usize, page: &mut [u8]) -> usize
     ensures value { result ≡ behind at (hexadecimal n) page.old }
     ensures page_after { page.new ≡ laid at (hexadecimal n) page.old }
 {
-    let text = hex(n);
-    put_bytes(&text, at, page)
+    put_bytes(&hex(n), at, page)
 }
 
-// The bits of x; of a NaN, which to_bits does not take, those of the quiet NaN.
+// The bits of x; of a NaN those of the quiet NaN.
 pub fn bits_of(x: f64) -> u64
     ensures { result ≡ to_bits binary64 x }
 {
-    if x != x {
-        0x7FF8_0000_0000_0000
-    } else {
-        f64::to_bits(x)
-    }
+    f64_to_bits_with_nan(x)
 }

@@ -1,35 +1,66 @@
 // The line of an answer: a point's numbers with single spaces between them, or a refusal's number alone.
-ghost use Rattle.std.specs.Prelude.{◌≡◌, ◌++◌, ◌+◌, ◌≤◌, length, take};
+// It is made in a vector of fixed room, and laid into the page as a whole. (`write!` would not do: no clause says
+// that it succeeds where there is room.) A point's five numbers stand one by one, as the public writers take them.
+ghost use Rattle.std.specs.Prelude.{◌≡◌, ◌++◌, ◌+◌, ◌≤◌, length};
+ghost use Rattle.arrayvec.specs.ArrayVec.{array_vec_len};
 ghost use Rattle.text.specs.Page.{laid, behind};
+ghost use Rattle.text.specs.Digits.{decimal};
 ghost use Rattle.text.specs.Line.{number, point_text, point_line, refusal_line};
 
-use crate::decimal::put_decimal;
-use crate::hexadecimal::{bits_of, put_hex};
+use crate::hexadecimal::{bits_of, hex};
 use crate::page::put_bytes;
+use arrayvec::ArrayVec;
 
-// Puts a space and the bits of x behind what the text begins with.
-fn put_number(x: f64, at: usize, text: &mut [u8]) -> usize
-    requires { at + 17 ≤ length text.old }
-    ensures value { result ≡ at + 17 }
-    ensures text_after { take result text.new ≡ take at text.old ++ number x }
+// The longest line: 1 + 4 x 17 + 1 bytes, a count of ten digits and a newline.
+const LONGEST: usize = 81;
+
+type Line = ArrayVec<u8, LONGEST>;
+
+// Pushes bytes that the line has room for.
+fn push_bytes(line: &mut Line, bytes: &[u8])
+    requires { array_vec_len line.old + length bytes.now ≤ LONGEST }
+    ensures { line.new.items ≡ line.old.items ++ bytes.now }
 {
-    let at_digits = put_bytes(b" ", at, text);
-    put_hex(bits_of(x), at_digits, text)
+    let _ = line.try_extend_from_slice(bytes);
 }
 
-// Puts a point's numbers at the start of the text, which has room for a count of ten digits: 1 + 4 x 17 + 1 + 10.
-fn spell_point(x: f64, y: f64, z: f64, clearance: f64, count: u32, text: &mut [u8]) -> usize
-    requires { length text.old ≡ 80 }
-    ensures upper_bound { result ≤ 80 }
-    ensures text_after { take result text.new ≡ point_text x y z clearance count }
+// Pushes a space and the bits of x.
+#[tactic(auto, unfolding(crate::specs::Line::number))]
+fn push_number(line: &mut Line, x: f64)
+    requires { array_vec_len line.old + 17 ≤ LONGEST }
+    ensures text { line.new.items ≡ line.old.items ++ number x }
+    ensures len { array_vec_len line.new ≡ array_vec_len line.old + 17 }
 {
-    let at_x = put_decimal(0, 0, text);
-    let at_y = put_number(x, at_x, text);
-    let at_z = put_number(y, at_y, text);
-    let at_clearance = put_number(z, at_z, text);
-    let at_space = put_number(clearance, at_clearance, text);
-    let at_count = put_bytes(b" ", at_space, text);
-    put_decimal(count, at_count, text)
+    line.push(b' ');
+    push_bytes(line, &hex(bits_of(x)));
+}
+
+// Pushes n's digits.
+#[tactic(auto, using(crate::proofs::Tens::decimal_is))]
+fn push_decimal(line: &mut Line, n: u32)
+    requires { array_vec_len line.old + 10 ≤ LONGEST }
+    ensures text { line.new.items ≡ line.old.items ++ decimal n }
+    ensures len { array_vec_len line.new ≤ array_vec_len line.old + 10 }
+{
+    let mut digits = itoa::Buffer::new();
+    push_bytes(line, digits.format(n).as_bytes());
+}
+
+// A point's numbers: its status 0, x, y, z, clearance and count.
+#[tactic(auto, using(crate::proofs::Tens::status), unfolding(crate::specs::Line::point_text))]
+fn point_text(x: f64, y: f64, z: f64, clearance: f64, count: u32) -> Line
+    ensures text { result.items ≡ point_text x y z clearance count }
+    ensures len { array_vec_len result ≤ 80 }
+{
+    let mut line = Line::new();
+    line.push(b'0');
+    push_number(&mut line, x);
+    push_number(&mut line, y);
+    push_number(&mut line, z);
+    push_number(&mut line, clearance);
+    line.push(b' ');
+    push_decimal(&mut line, count);
+    line
 }
 
 // Puts a point's numbers: its status 0, x, y, z, clearance and count.
@@ -45,12 +76,12 @@ pub fn put_point(
     ensures value { result ≡ behind at (point_text x y z clearance count) page.old }
     ensures page_after { page.new ≡ laid at (point_text x y z clearance count) page.old }
 {
-    let mut text = [0u8; 80];
-    let n = spell_point(x, y, z, clearance, count, &mut text);
-    put_bytes(&text[..n], at, page)
+    let text = point_text(x, y, z, clearance, count);
+    put_bytes(text.as_slice(), at, page)
 }
 
 // Puts a point's numbers and a newline.
+#[tactic(auto, unfolding(crate::specs::Line::point_line))]
 pub fn point_line(
     x: f64,
     y: f64,
@@ -63,19 +94,19 @@ pub fn point_line(
     ensures value { result ≡ behind at (point_line x y z clearance count) page.old }
     ensures page_after { page.new ≡ laid at (point_line x y z clearance count) page.old }
 {
-    let mut line = [0u8; 81];
-    let n = put_point(x, y, z, clearance, count, 0, &mut line);
-    let end = put_bytes(b"\n", n, &mut line);
-    put_bytes(&line[..end], at, page)
+    let mut line = point_text(x, y, z, clearance, count);
+    line.push(b'\n');
+    put_bytes(line.as_slice(), at, page)
 }
 
 // Puts a refusal's number and a newline.
+#[tactic(auto, unfolding(crate::specs::Line::refusal_line))]
 pub fn refusal_line(number: u32, at: usize, page: &mut [u8]) -> usize
     ensures value { result ≡ behind at (refusal_line number) page.old }
     ensures page_after { page.new ≡ laid at (refusal_line number) page.old }
 {
-    let mut line = [0u8; 11];
-    let n = put_decimal(number, 0, &mut line);
-    let end = put_bytes(b"\n", n, &mut line);
-    put_bytes(&line[..end], at, page)
+    let mut line = Line::new();
+    push_decimal(&mut line, number);
+    line.push(b'\n');
+    put_bytes(line.as_slice(), at, page)
 }

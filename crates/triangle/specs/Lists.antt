@@ -8,6 +8,7 @@ use Rattle.std.specs.Float.Ieee.{eq}
 use Rattle.leaves.specs.Constants.{plus_zero, one}
 use Rattle.space.specs.Places.{place_at}
 use Rattle.answers.specs.Outcome.{Numbers, refused}
+use Rattle.sides.specs.declared.side.Side.{Side}
 use Rattle.triangle.specs.Triangle.{triangle_of}
 
 -- ---- 16
@@ -30,32 +31,21 @@ lists_wrong centre sides =
 abbrev pub coordinates : List Float → ℕ → List Float
 coordinates xs n = get_or xs n nan ∷ get_or xs (n + 1) nan ∷ get_or xs (n + 2) nan ∷ []
 
-unfoldable pub ends_from : List Float → ℕ → List (List Float)
-ends_from sides n = coordinates sides n ∷ coordinates sides (n + 3) ∷ []
-
-unfoldable pub reversed_from : List Float → ℕ → Bool
+unfoldable pub side_from : List Float → ℕ → Side
 unfolding eq
-reversed_from sides n = eq (get_or sides (n + 6) nan) one
-
-unfoldable pub circle_from : List Float → ℕ → List Float
-circle_from sides n = get_or sides (n + 7) nan ∷ get_or sides (n + 8) nan ∷ get_or sides (n + 9) nan ∷ get_or sides (n + 10) nan ∷ []
-
-unfoldable pub range_from : List Float → ℕ → List Float
-range_from sides n = get_or sides (n + 11) nan ∷ get_or sides (n + 12) nan ∷ []
-
-unfoldable pub evaluated_from : List Float → ℕ → List (List Float)
-evaluated_from sides n = coordinates sides (n + 13) ∷ coordinates sides (n + 16) ∷ []
+side_from sides n = record {
+  ends = coordinates sides n ∷ coordinates sides (n + 3) ∷ [];
+  reversed = eq (get_or sides (n + 6) nan) one;
+  circle = record { centre = place_at sides (n + 7); radius = get_or sides (n + 10) nan };
+  range = get_or sides (n + 11) nan ∷ get_or sides (n + 12) nan ∷ [];
+  evaluated = coordinates sides (n + 13) ∷ coordinates sides (n + 16) ∷ [];
+}
 
 -- ---- the call
 
 unfoldable pub triangle_lists_of : List Float → Float → ℕ → List Float → Numbers
-unfolding lists_wrong triangle_of ends_from reversed_from circle_from range_from evaluated_from
+unfolding lists_wrong triangle_of side_from
 triangle_lists_of centre radius sense sides =
     cond (lists_wrong centre sides)
     (refused 16)
-    (triangle_of (place_at centre 0) radius sense
-    (ends_from sides 0 ∷ ends_from sides 19 ∷ ends_from sides 38 ∷ [])
-    (reversed_from sides 0 ∷ reversed_from sides 19 ∷ reversed_from sides 38 ∷ [])
-    (circle_from sides 0 ∷ circle_from sides 19 ∷ circle_from sides 38 ∷ [])
-    (range_from sides 0 ∷ range_from sides 19 ∷ range_from sides 38 ∷ [])
-    (evaluated_from sides 0 ∷ evaluated_from sides 19 ∷ evaluated_from sides 38 ∷ []))
+    (triangle_of (record { centre = place_at centre 0; radius = radius }) sense (side_from sides 0 ∷ side_from sides 19 ∷ side_from sides 38 ∷ []))

@@ -1,16 +1,19 @@
 -- Document 01, "Triangle (`spherical_triangle`), answering three coordinates: centre, radius r, sense; three sides,
 -- each of two ends of three coordinates, with a reversed flag, circle centre and radius, two range ends, and the host's
 -- evaluated ends", and `spherical_triangle` of uv.rs.
-use Rattle.std.specs.Prelude.{Bool, false, cond, ◌||◌, List, [], ◌∷◌, ℕ, eqb, Float, get_or}
+use Rattle.std.specs.Prelude.{Bool, false, cond, ◌||◌, List, [], ◌∷◌, map, ℕ, eqb, Float, Option}
+use mathlib.Core.List.{foldl}
 use Rattle.std.specs.Float.{binary64}
 use Rattle.std.specs.Float.Ieee.{neg, add, mul, lt, le}
 use Rattle.leaves.specs.Constants.{plus_zero, micro, end_limit, one}
 use Rattle.space.specs.Vectors.{place, minus_of, dot_of, cross_of, distance_of, unit_of, unit_fails, along_of}
 use Rattle.space.specs.declared.vectors.Place.{Place}
-use Rattle.space.specs.declared.vectors.UnitVector.{UnitVector}
+use Rattle.answers.specs.Lists.{any_of}
 use Rattle.answers.specs.Outcome.{check, first, Numbers, settled}
-use Rattle.answers.specs.Answers.{valued}
+use Rattle.answers.specs.Answers.{place_numbers}
 use Rattle.sides.specs.Sides.{end_of, sphere_wrong, sides_beyond, sides_wrong}
+use Rattle.sides.specs.declared.side.Sphere.{Sphere}
+use Rattle.sides.specs.declared.side.Side.{Side}
 use Rattle.triangle.specs.declared.arcs.Arc.{Arc}
 
 -- ---- the directions of a side's ends, after the reversal
@@ -21,9 +24,12 @@ towards centre p = along_of (unit_of (minus_of p centre))
 abbrev pub arc : Place → Place → Arc
 arc start end = record { start = start; end = end }
 
-unfoldable pub arc_of : Place → List (List Float) → Bool → Arc
+unfoldable pub arc_of : Place → Side → Arc
 unfolding towards
-arc_of centre ends reversed = cond reversed (arc (towards centre (end_of ends 1)) (towards centre (end_of ends 0))) (arc (towards centre (end_of ends 0)) (towards centre (end_of ends 1)))
+arc_of centre side =
+    cond side.reversed
+    (arc (towards centre (end_of side.ends 1)) (towards centre (end_of side.ends 0)))
+    (arc (towards centre (end_of side.ends 0)) (towards centre (end_of side.ends 1)))
 
 -- ---- 18: "a side's end direction over 1e-5 from the next's start"
 
@@ -31,26 +37,28 @@ unfoldable pub is_gap : Place → Place → Bool
 unfolding lt
 is_gap end start = lt end_limit (distance_of end start)
 
-unfoldable pub gap_among : Arc → Arc → Arc → Bool
+-- of the three
+unfoldable pub gap_among : List Arc → Bool
 unfolding is_gap
-gap_among a b c = is_gap a.end b.start || is_gap b.end c.start || is_gap c.end a.start
+gap_among (a ∷ b ∷ c ∷ []) = is_gap a.end b.start || is_gap b.end c.start || is_gap c.end a.start
+gap_among arcs = false
 
 -- ---- 19: "`unit` of the sum fails, sense 0, or a triple product ≤ 1e-6"; the Rust's triple product has the sense's
 -- sign
 
--- of the three start directions, from +0
-unfoldable pub sum_of : Float → Float → Float → Float
+unfoldable pub plus_of : Place → Place → Place
 unfolding add
-sum_of a b c = add binary64 (add binary64 (add binary64 plus_zero a) b) c
+plus_of a b = place (add binary64 a.x b.x) (add binary64 a.y b.y) (add binary64 a.z b.z)
 
-unfoldable pub start_sum : Place → Place → Place → Place
-unfolding sum_of
-start_sum a b c = place (sum_of a.x b.x c.x) (sum_of a.y b.y c.y) (sum_of a.z b.z c.z)
+-- of the start directions, from +0
+unfoldable pub start_sum : List Arc → Place
+unfolding plus_of
+start_sum arcs = foldl (λ (sum : Place) (a : Arc). plus_of sum a.start) (place plus_zero plus_zero plus_zero) arcs
 
 -- the unit of the sum
-unfoldable pub inner_of : Arc → Arc → Arc → UnitVector
+unfoldable pub inner_of : List Arc → Option Place
 unfolding start_sum
-inner_of a b c = unit_of (start_sum a.start b.start c.start)
+inner_of arcs = unit_of (start_sum arcs)
 
 -- +1 forward, −1 reversed
 unfoldable pub sign_of : ℕ → Float
@@ -61,9 +69,9 @@ unfoldable pub outside : Float → Place → Arc → Bool
 unfolding le mul
 outside sign p a = le (mul binary64 (dot_of (cross_of a.start a.end) p) sign) micro
 
-unfoldable pub no_interior : ℕ → Place → Arc → Arc → Arc → Bool
+unfoldable pub no_interior : ℕ → Place → List Arc → Bool
 unfolding outside sign_of
-no_interior sense p a b c = eqb sense 0 || outside (sign_of sense) p a || outside (sign_of sense) p b || outside (sign_of sense) p c
+no_interior sense p arcs = eqb sense 0 || any_of (outside (sign_of sense) p) arcs
 
 -- ---- the answer: centre + r × p
 
@@ -71,27 +79,28 @@ unfoldable pub reach_of : Float → Float → Float → Float
 unfolding add mul
 reach_of centre radius p = add binary64 centre (mul binary64 radius p)
 
-unfoldable pub on_sphere : Place → Float → Place → Numbers
+unfoldable pub reach : Sphere → Place → Place
 unfolding reach_of
-on_sphere centre radius p = valued (reach_of centre.x radius p.x) (reach_of centre.y radius p.y) (reach_of centre.z radius p.z)
+reach sphere p = place (reach_of sphere.centre.x sphere.radius p.x) (reach_of sphere.centre.y sphere.radius p.y) (reach_of sphere.centre.z sphere.radius p.z)
+
+unfoldable pub on_sphere : Sphere → Place → Numbers
+unfolding reach
+on_sphere sphere p = place_numbers (reach sphere p)
 
 -- of the three sides' directions
-unfoldable pub triangle_among : Place → Float → ℕ → Arc → Arc → Arc → Numbers
+unfoldable pub triangle_among : Sphere → ℕ → List Arc → Numbers
 unfolding gap_among inner_of no_interior on_sphere
-triangle_among centre radius sense a b c =
+triangle_among sphere sense arcs =
     settled
-    (first (check 18 (gap_among a b c) ∷ check 19 (unit_fails (inner_of a b c) || no_interior sense (along_of (inner_of a b c)) a b c) ∷ []))
-    (on_sphere centre radius (along_of (inner_of a b c)))
+    (first (check 18 (gap_among arcs) ∷ check 19 (unit_fails (inner_of arcs) || no_interior sense (along_of (inner_of arcs)) arcs) ∷ []))
+    (on_sphere sphere (along_of (inner_of arcs)))
 
-unfoldable pub triangle_of : Place → Float → ℕ → List (List (List Float)) → List Bool → List (List Float) → List (List Float) → List (List (List Float)) → Numbers
+unfoldable pub triangle_of : Sphere → ℕ → List Side → Numbers
 unfolding triangle_among arc_of
-triangle_of centre radius sense ends reversed circles ranges evaluated =
+triangle_of sphere sense sides =
     settled
     (first
-    (check 16 (sphere_wrong centre radius sense || sides_beyond ends circles ranges evaluated)
-    ∷ check 17 (sides_wrong centre radius ends circles ranges evaluated)
+    (check 16 (sphere_wrong sphere sense || sides_beyond sides)
+    ∷ check 17 (sides_wrong sphere sides)
     ∷ []))
-    (triangle_among centre radius sense
-    (arc_of centre (get_or ends 0 []) (get_or reversed 0 false))
-    (arc_of centre (get_or ends 1 []) (get_or reversed 1 false))
-    (arc_of centre (get_or ends 2 []) (get_or reversed 2 false)))
+    (triangle_among sphere sense (map (arc_of sphere.centre) sides))

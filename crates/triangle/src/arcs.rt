@@ -1,151 +1,161 @@
 // The triangle of uv.rs: a minor great-circle triangle has one interior on its oriented side.
-ghost use Rattle.std.specs.Prelude.{◌≡◌, eqb};
+ghost use Rattle.std.specs.Prelude.{◌≡◌, map};
 ghost use Rattle.space.specs.Places.{place_at};
-ghost use Rattle.answers.specs.Answers.{position_paper, is_position};
-ghost use Rattle.triangle.specs.Triangle.{towards as towards_of, arc_of, gap_among, start_sum, outside, no_interior, on_sphere, triangle_among, triangle_of};
+ghost use Rattle.answers.specs.Answers.{position_paper};
+ghost use Rattle.answers.specs.Lists.{any_of};
+ghost use Rattle.triangle.specs.Triangle.{towards as towards_of, arc_of, is_gap as is_gap_of, gap_among, plus_of, start_sum, sign_of, outside, no_interior, reach, triangle_among, triangle_of};
 
-use answers::PositionAnswer;
+use answers::Refusal;
 use leaves::constants::{END_LIMIT, MICRO};
-use sides::{place_of, sides_beyond, sides_wrong, sphere_wrong};
-use space::Place;
+use sides::{Side, Sphere, place_of, sides_beyond, sides_wrong};
+use space::{ORIGIN, Place};
 
 // The directions of a side's two ends from the sphere's centre, in the order of the coedge.
-#[derive(Clone, Copy)]
+#[derive(Clone, Copy, Debug, PartialEq)]
 pub struct Arc {
     pub start: Place,
     pub end: Place,
 }
 
 // The direction of an end from the centre.
+#[tactic(auto, unfolding(crate::specs::Triangle::towards))]
 fn towards(centre: Place, end: [f64; 3]) -> Place
     ensures { result ≡ towards_of centre (place_at end 0) }
 {
-    space::along(space::unit(space::minus(place_of(end), centre)))
+    space::unit(space::minus(place_of(end), centre)).unwrap_or(ORIGIN)
 }
 
-// The directions of a side's ends, after the reversal.
-fn arc_along(centre: Place, ends: [[f64; 3]; 2], reversed: bool) -> Arc
-    ensures { result ≡ arc_of centre ends reversed }
-{
-    let start = towards(centre, ends[0]);
-    let end = towards(centre, ends[1]);
-    if reversed {
-        Arc {
-            start: end,
-            end: start,
+impl Arc {
+    // The directions of a side's ends, after the reversal.
+    #[tactic(auto, unfolding(crate::specs::Triangle::arc_of))]
+    fn of_side(centre: Place, side: Side) -> Arc
+        ensures { result ≡ arc_of centre side }
+    {
+        let start = towards(centre, side.ends[0]);
+        let end = towards(centre, side.ends[1]);
+        if side.reversed {
+            Arc {
+                start: end,
+                end: start,
+            }
+        } else {
+            Arc { start, end }
         }
-    } else {
-        Arc {
-            start: start,
-            end: end,
-        }
+    }
+
+    // Whether the arc ends over 1e-5 from where the next starts.
+    #[tactic(auto, using(leaves::proofs::ConstantBits::end_limit_bits), unfolding(crate::specs::Triangle::is_gap))]
+    fn is_off(self, next: Arc) -> bool
+        ensures { result ≡ is_gap_of self.end next.start }
+    {
+        END_LIMIT < space::distance(self.end, next.start)
+    }
+
+    // Whether p is not clear of the side, on the inner side by the sign.
+    #[tactic(auto, using(leaves::proofs::ConstantBits::micro_bits), unfolding(crate::specs::Triangle::outside))]
+    fn is_outside(self, sign: f64, p: Place) -> bool
+        ensures { result ≡ outside sign p self }
+    {
+        space::dot(space::cross(self.start, self.end), p) * sign <= MICRO
     }
 }
 
-// 18: a side's end direction is over 1e-5 from the next side's start.
-fn any_gap(a: Arc, b: Arc, c: Arc) -> bool
-    ensures { result ≡ gap_among a b c }
+// The directions of the three sides.
+fn arcs_of(centre: Place, sides: [Side; 3]) -> [Arc; 3]
+    ensures { result ≡ map (arc_of centre) sides }
 {
-    if END_LIMIT < space::distance(a.end, b.start) {
-        true
-    } else if END_LIMIT < space::distance(b.end, c.start) {
-        true
-    } else {
-        END_LIMIT < space::distance(c.end, a.start)
+    sides.map(|side| Arc::of_side(centre, side))
+}
+
+// 18: a side's end direction is over 1e-5 from the next side's start.
+#[tactic(auto, unfolding(crate::specs::Triangle::gap_among))]
+fn any_gap(arcs: [Arc; 3]) -> bool
+    ensures { result ≡ gap_among arcs }
+{
+    let [a, b, c] = arcs;
+    a.is_off(b) || b.is_off(c) || c.is_off(a)
+}
+
+#[tactic(auto, unfolding(crate::specs::Triangle::plus_of))]
+fn plus(a: Place, b: Place) -> Place
+    ensures { result ≡ plus_of a b }
+{
+    Place {
+        x: a.x + b.x,
+        y: a.y + b.y,
+        z: a.z + b.z,
     }
 }
 
 // The sum of the start directions, from +0.
-fn start_sum(a: Place, b: Place, c: Place) -> Place
-    ensures { result ≡ start_sum a b c }
+#[tactic(auto, unfolding(crate::specs::Triangle::start_sum))]
+fn start_sum(arcs: [Arc; 3]) -> Place
+    ensures { result ≡ start_sum arcs }
 {
-    Place {
-        x: 0.0 + a.x + b.x + c.x,
-        y: 0.0 + a.y + b.y + c.y,
-        z: 0.0 + a.z + b.z + c.z,
-    }
+    arcs.iter().fold(ORIGIN, |sum, arc| plus(sum, arc.start))
 }
 
-// Whether p is not clear of a side, on the inner side by the sign.
-fn is_outside(sign: f64, p: Place, a: Arc) -> bool
-    ensures { result ≡ outside sign p a }
+// +1 forward, -1 reversed.
+#[tactic(auto, unfolding(crate::specs::Triangle::sign_of))]
+fn sign_of(sense: u32) -> f64
+    ensures { result ≡ sign_of sense }
 {
-    space::dot(space::cross(a.start, a.end), p) * sign <= MICRO
+    if sense == 1 { 1.0 } else { -1.0 }
+}
+
+fn any_outside(sign: f64, p: Place, arcs: [Arc; 3]) -> bool
+    ensures { result ≡ any_of (outside sign p) arcs }
+{
+    arcs.iter().any(|arc| arc.is_outside(sign, p))
 }
 
 // 19: sense 0, or p is not clear of a side.
-fn no_interior(sense: u32, p: Place, a: Arc, b: Arc, c: Arc) -> bool
-    ensures { result ≡ no_interior sense p a b c }
+#[tactic(auto, unfolding(crate::specs::Triangle::no_interior))]
+fn no_interior(sense: u32, p: Place, arcs: [Arc; 3]) -> bool
+    ensures { result ≡ no_interior sense p arcs }
 {
     let is_absent = sense == 0;
-    if is_absent {
-        return true;
-    }
-    let sign = if sense == 1 { 1.0 } else { -1.0 };
-    if is_outside(sign, p, a) {
-        true
-    } else if is_outside(sign, p, b) {
-        true
-    } else {
-        is_outside(sign, p, c)
-    }
+    is_absent || any_outside(sign_of(sense), p, arcs)
 }
 
 // The place on the sphere in the direction p.
-fn on_sphere(centre: Place, radius: f64, p: Place) -> PositionAnswer
-    ensures { (position_paper result ≡ on_sphere centre radius p) × (is_position result ≡ eqb (position_paper result).status 0) }
+#[tactic(auto, unfolding(crate::specs::Triangle::reach, crate::specs::Triangle::reach_of))]
+fn on_sphere(sphere: Sphere, p: Place) -> Place
+    ensures { result ≡ reach sphere p }
 {
-    PositionAnswer::Position(
-        centre.x + radius * p.x,
-        centre.y + radius * p.y,
-        centre.z + radius * p.z,
-    )
+    let Sphere { centre, radius } = sphere;
+    Place {
+        x: centre.x + radius * p.x,
+        y: centre.y + radius * p.y,
+        z: centre.z + radius * p.z,
+    }
 }
 
 // 18, 19 and the answer, of the three sides' directions.
-fn among(centre: Place, radius: f64, sense: u32, a: Arc, b: Arc, c: Arc) -> PositionAnswer
-    ensures { (position_paper result ≡ triangle_among centre radius sense a b c) × (is_position result ≡ eqb (position_paper result).status 0) }
+#[tactic(auto, unfolding(crate::specs::Triangle::triangle_among, crate::specs::Triangle::inner_of, crate::specs::Triangle::on_sphere, answers::specs::Outcome::settled, answers::specs::Outcome::first, answers::specs::Answers::paper_by, answers::specs::Outcome::number_of))]
+fn among(sphere: Sphere, sense: u32, arcs: [Arc; 3]) -> Result<Place, Refusal>
+    ensures { position_paper result ≡ triangle_among sphere sense arcs }
 {
-    if any_gap(a, b, c) {
-        return PositionAnswer::Refused(18);
+    if any_gap(arcs) {
+        return Err(Refusal::Gap);
     }
-    let inner = space::unit(start_sum(a.start, b.start, c.start));
-    if space::fails(inner) {
-        return PositionAnswer::Refused(19);
+    let p = space::unit(start_sum(arcs)).ok_or(Refusal::NoInterior)?;
+    if no_interior(sense, p, arcs) {
+        return Err(Refusal::NoInterior);
     }
-    let p = space::along(inner);
-    if no_interior(sense, p, a, b, c) {
-        return PositionAnswer::Refused(19);
-    }
-    on_sphere(centre, radius, p)
+    Ok(on_sphere(sphere, p))
 }
 
-// The middle of a triangle of great-circle arcs: three sides by two ends by three coordinates, as the
-// edges have them, with a reversed flag, the circle's centre and radius, the range and the evaluated ends
-// of each.
-pub fn spherical_triangle(
-    centre: Place,
-    radius: f64,
-    sense: u32,
-    ends: [[[f64; 3]; 2]; 3],
-    reversed: [bool; 3],
-    circles: [[f64; 4]; 3],
-    ranges: [[f64; 2]; 3],
-    evaluated: [[[f64; 3]; 2]; 3],
-) -> PositionAnswer
-    ensures { (position_paper result ≡ triangle_of centre radius sense ends reversed circles ranges evaluated) × (is_position result ≡ eqb (position_paper result).status 0) }
+// The middle of a triangle of great-circle arcs: its sphere, the sense, and three sides.
+#[tactic(auto, unfolding(crate::specs::Triangle::triangle_of, answers::specs::Outcome::settled, answers::specs::Outcome::first, answers::specs::Answers::paper_by, answers::specs::Outcome::number_of))]
+pub fn spherical_triangle(sphere: Sphere, sense: u32, sides: [Side; 3]) -> Result<Place, Refusal>
+    ensures { position_paper result ≡ triangle_of sphere sense sides }
 {
-    if sphere_wrong(centre, radius, sense) {
-        return PositionAnswer::Refused(16);
+    if sphere.is_wrong(sense) || sides_beyond(&sides) {
+        return Err(Refusal::Argument);
     }
-    if sides_beyond(ends, circles, ranges, evaluated) {
-        return PositionAnswer::Refused(16);
+    if sides_wrong(sphere, &sides) {
+        return Err(Refusal::Sides);
     }
-    if sides_wrong(centre, radius, ends, circles, ranges, evaluated) {
-        return PositionAnswer::Refused(17);
-    }
-    let a = arc_along(centre, ends[0], reversed[0]);
-    let b = arc_along(centre, ends[1], reversed[1]);
-    let c = arc_along(centre, ends[2], reversed[2]);
-    among(centre, radius, sense, a, b, c)
+    among(sphere, sense, arcs_of(sphere.centre, sides))
 }

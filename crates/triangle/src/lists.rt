@@ -1,37 +1,31 @@
 // The triangle on flat lists, as the host has them.
-ghost use Rattle.std.specs.Prelude.{◌≡◌, ◌+◌, ◌<◌, eqb, length};
-ghost use Rattle.answers.specs.Answers.{position_paper, is_position};
-ghost use Rattle.triangle.specs.Lists.{no_flag, lists_wrong, coordinates, ends_from, reversed_from, circle_from, range_from, evaluated_from, triangle_lists_of};
+ghost use Rattle.std.specs.Prelude.{◌≡◌, ◌+◌, ◌<◌, length, get_or, true, false, MatchResult};
+ghost use Rattle.std.specs.Float.Ieee.{eq};
+ghost use Rattle.leaves.specs.Constants.{one};
+ghost use Rattle.answers.specs.declared.refusal.Refusal.TheVariants.{Argument};
+ghost use Rattle.std.specs.Float.{nan};
+ghost use Rattle.answers.specs.Answers.{position_paper};
+ghost use Rattle.triangle.specs.Lists.{no_flag, coordinates, side_from, triangle_lists_of};
 
 use crate::arcs::spherical_triangle;
-use answers::PositionAnswer;
+use answers::Refusal;
+use sides::{Side, Sphere};
+use space::Place;
 
-// Nineteen numbers a side.
-const SIDES_LENGTH: usize = 57;
+// Numbers of a side.
+const SIDE_LENGTH: usize = 19;
 
-// Whether a number is neither 0 nor 1.
-fn is_no_flag(x: f64) -> bool
-    ensures { result ≡ no_flag x }
+// A flag is 0 or 1; another number is a number missing.
+#[tactic(auto, unfolding(crate::specs::Lists::no_flag))]
+fn flag(x: f64) -> Result<bool, Refusal>
+    ensures { MatchResult result (λ b. (no_flag x ≡ false) × (b ≡ eq x one)) (λ e. (no_flag x ≡ true) × (e ≡ Argument)) }
 {
-    if x == 0.0 { false } else { !(x == 1.0) }
-}
-
-// 16: a list of another length, or a flag that is none.
-fn lists_wrong(centre: &[f64], sides: &[f64]) -> bool
-    ensures { result ≡ lists_wrong centre.now sides.now }
-{
-    if centre.len() != 3 {
-        return true;
-    }
-    if sides.len() != SIDES_LENGTH {
-        return true;
-    }
-    if is_no_flag(sides[6]) {
-        true
-    } else if is_no_flag(sides[25]) {
-        true
+    if x == 1.0 {
+        Ok(true)
+    } else if x == 0.0 {
+        Ok(false)
     } else {
-        is_no_flag(sides[44])
+        Err(Refusal::Argument)
     }
 }
 
@@ -42,85 +36,49 @@ fn coordinates_at(list: &[f64], at: usize) -> [f64; 3]
     [list[at], list[at + 1], list[at + 2]]
 }
 
-// The ends of the side whose numbers begin at `at`.
-fn ends_at(sides: &[f64], at: usize) -> [[f64; 3]; 2]
+// The side whose nineteen numbers begin at `at`.
+#[tactic(auto, unfolding(crate::specs::Lists::side_from))]
+fn side_at(sides: &[f64], at: usize) -> Result<Side, Refusal>
     requires { at + 18 < length sides.now }
-    ensures { result ≡ ends_from sides.now at }
+    ensures { MatchResult result (λ side. (no_flag (get_or sides.now (at + 6) nan) ≡ false) × (side ≡ side_from sides.now at)) (λ e. (no_flag (get_or sides.now (at + 6) nan) ≡ true) × (e ≡ Argument)) }
 {
-    let start = coordinates_at(sides, at);
-    let end = coordinates_at(sides, at + 3);
-    [start, end]
-}
-
-fn reversed_at(sides: &[f64], at: usize) -> bool
-    requires { at + 18 < length sides.now }
-    ensures { result ≡ reversed_from sides.now at }
-{
-    sides[at + 6] == 1.0
-}
-
-// Centre and radius.
-fn circle_at(sides: &[f64], at: usize) -> [f64; 4]
-    requires { at + 18 < length sides.now }
-    ensures { result ≡ circle_from sides.now at }
-{
-    [sides[at + 7], sides[at + 8], sides[at + 9], sides[at + 10]]
-}
-
-fn range_at(sides: &[f64], at: usize) -> [f64; 2]
-    requires { at + 18 < length sides.now }
-    ensures { result ≡ range_from sides.now at }
-{
-    [sides[at + 11], sides[at + 12]]
-}
-
-fn evaluated_at(sides: &[f64], at: usize) -> [[f64; 3]; 2]
-    requires { at + 18 < length sides.now }
-    ensures { result ≡ evaluated_from sides.now at }
-{
-    let start = coordinates_at(sides, at + 13);
-    let end = coordinates_at(sides, at + 16);
-    [start, end]
+    Ok(Side {
+        ends: [coordinates_at(sides, at), coordinates_at(sides, at + 3)],
+        reversed: flag(sides[at + 6])?,
+        circle: Sphere {
+            centre: space::place_at(sides, at + 7),
+            radius: sides[at + 10],
+        },
+        range: [sides[at + 11], sides[at + 12]],
+        evaluated: [
+            coordinates_at(sides, at + 13),
+            coordinates_at(sides, at + 16),
+        ],
+    })
 }
 
 // The triangle: the centre's three numbers, and nineteen of each side, its two ends, the reversed flag,
 // the circle's centre and radius, the range's two ends and the two evaluated ends.
+#[tactic(auto, unfolding(crate::specs::Lists::triangle_lists_of, crate::specs::Lists::lists_wrong, answers::specs::Answers::paper_by, answers::specs::Outcome::number_of))]
 pub fn spherical_triangle_of(
     centre: &[f64],
     radius: f64,
     sense: u32,
     sides: &[f64],
-) -> PositionAnswer
-    ensures { (position_paper result ≡ triangle_lists_of centre.now radius sense sides.now) × (is_position result ≡ eqb (position_paper result).status 0) }
+) -> Result<Place, Refusal>
+    ensures { position_paper result ≡ triangle_lists_of centre.now radius sense sides.now }
 {
-    if lists_wrong(centre, sides) {
-        return PositionAnswer::Refused(16);
+    if centre.len() != 3 || sides.len() != 3 * SIDE_LENGTH {
+        return Err(Refusal::Argument);
     }
-    let ends = [ends_at(sides, 0), ends_at(sides, 19), ends_at(sides, 38)];
-    let reversed = [
-        reversed_at(sides, 0),
-        reversed_at(sides, 19),
-        reversed_at(sides, 38),
-    ];
-    let circles = [
-        circle_at(sides, 0),
-        circle_at(sides, 19),
-        circle_at(sides, 38),
-    ];
-    let ranges = [range_at(sides, 0), range_at(sides, 19), range_at(sides, 38)];
-    let evaluated = [
-        evaluated_at(sides, 0),
-        evaluated_at(sides, 19),
-        evaluated_at(sides, 38),
-    ];
-    spherical_triangle(
-        space::place_at(centre, 0),
+    let sphere = Sphere {
+        centre: space::place_at(centre, 0),
         radius,
-        sense,
-        ends,
-        reversed,
-        circles,
-        ranges,
-        evaluated,
-    )
+    };
+    let sides = [
+        side_at(sides, 0)?,
+        side_at(sides, SIDE_LENGTH)?,
+        side_at(sides, 2 * SIDE_LENGTH)?,
+    ];
+    spherical_triangle(sphere, sense, sides)
 }

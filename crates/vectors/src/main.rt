@@ -6,14 +6,15 @@
 // That the constants of `leaves` have their bits is proved, and tried when the program starts.
 #![tactic(auto)]
 
-ghost use Rattle.std.specs.Prelude.{◌≡◌, true, ◌<◌, ◌≤◌};
-ghost use Rattle.std.specs.Float.Ieee.{nan_bits, of_bits};
+ghost use Rattle.std.specs.Prelude.{◌≡◌, ◌<◌, ◌≤◌, ◌==◌, ◌↔◌, IsTrue, to_bits};
 ghost use Rattle.std.specs.Float.{binary64};
-ghost use Rattle.std.specs.Io.{ReadsAtMost};
+ghost use Rattle.std.specs.List.{list_all};
 
+use cases::read_full;
 use leaves::constants;
 use std::fs;
 use std::io::{self, Read};
+use std::num::{f64_from_bits_with_nan, f64_to_bits_with_nan};
 use std::process::ExitCode;
 use std::rt::Files;
 
@@ -22,21 +23,6 @@ const LINE: usize = 34;
 // A proved loop has to end: this is more than either file has.
 const MOST_LINES: u64 = 3000;
 
-// The function under test.
-#[derive(Clone, Copy)]
-enum Leaf {
-    Root,
-    Round,
-}
-
-// What the next line of a file showed.
-#[derive(Clone, Copy)]
-enum Outcome {
-    Right,
-    Wrong,
-    Ended,
-}
-
 // How many vectors were read, and how many of them came out wrong.
 #[derive(Clone, Copy)]
 struct Tally {
@@ -44,159 +30,111 @@ struct Tally {
     wrong: u64,
 }
 
-// The value of a capital hexadecimal digit.
+// The value of a capital hexadecimal digit. std's `from_str_radix` refuses a line with another byte, which here
+// counts as a digit.
 fn digit(b: u8) -> u64
     ensures { result < 16 }
 {
     if b < 65 {
-        (b % 16) as u64
+        u64::from(b % 16)
     } else {
-        ((b - 55) % 16) as u64
+        u64::from((b - 55) % 16)
     }
 }
 
-// The number of the sixteen digits that start at `at`.
-fn number(line: &[u8; 34], at: usize) -> u64
-    requires { at ≤ 18 }
+fn number(digits: &[u8]) -> u64 {
+    digits.iter().fold(0, |n, b| n << 4 | digit(*b))
+}
+
+// Whether x is y; every NaN is the same.
+fn is_same(x: f64, y: f64) -> bool
+    ensures { IsTrue result ↔ (x ≡ y) }
 {
-    let mut n: u64 = 0;
-    let mut i = 0usize;
-    while i < 16 {
-        n = n << 4 | digit(line[at + i]);
-        i += 1;
-    }
-    n
+    f64_to_bits_with_nan(x) == f64_to_bits_with_nan(y)
 }
 
-// Whether the bits, without the sign, are above those of infinity.
-fn is_nan_pattern(bits: u64) -> bool
-    ensures { result ≡ nan_bits binary64 bits }
+// Reads a line, and says whether the answer for its argument is its answer; of a file that has ended, nothing.
+fn run_line<F: Fn(f64) -> f64, R: Read>(leaf: F, file: &mut R) -> io::Result<Option<bool>>
+    requires { F.IsAlwaysCallable leaf }
 {
-    0x7FF0_0000_0000_0000 < bits % 0x8000_0000_0000_0000
-}
-
-// The number that the bits stand for. from_bits takes no NaN's pattern, so a NaN is made anew.
-fn float(bits: u64) -> f64
-    ensures { result ≡ of_bits binary64 bits }
-{
-    if is_nan_pattern(bits) {
-        0.0 / 0.0
-    } else {
-        f64::from_bits(bits)
-    }
-}
-
-// Whether the bits stand for x.
-fn same(x: f64, bits: u64) -> bool
-    ensures { (result ≡ true → x ≡ of_bits binary64 bits) × (x ≡ of_bits binary64 bits → result ≡ true) }
-{
-    if x != x {
-        is_nan_pattern(bits)
-    } else {
-        f64::to_bits(x) == bits
-    }
-}
-
-fn answer(leaf: Leaf, x: f64) -> f64 {
-    match leaf {
-        Leaf::Root => leaves::root(x),
-        Leaf::Round => leaves::round(x),
-    }
-}
-
-// Reads until the buffer is full or the file ends. Answers how many bytes it put at the buffer's start.
-fn read_full<R: Read>(file: &mut R, buffer: &mut [u8]) -> io::Result<usize>
-    ensures { ReadsAtMost result buffer.new }
-{
-    let mut n = 0;
-    while n < buffer.len() {
-        let more = file.read(&mut buffer[n..])?;
-        if more == 0 {
-            break;
-        }
-        n += more;
-    }
-    Ok(n)
-}
-
-// Reads a line, and compares the answer for its argument with its answer.
-fn run_line<R: Read>(leaf: Leaf, file: &mut R) -> io::Result<Outcome> {
-    let mut line = [0u8; 34];
+    let mut line = [0u8; LINE];
     if read_full(file, &mut line)? < LINE {
-        return Ok(Outcome::Ended);
+        return Ok(None);
     }
-    let x = float(number(&line, 0));
-    if same(answer(leaf, x), number(&line, 17)) {
-        Ok(Outcome::Right)
-    } else {
-        Ok(Outcome::Wrong)
-    }
+    let x = f64_from_bits_with_nan(number(&line[..16]));
+    let answer = f64_from_bits_with_nan(number(&line[17..33]));
+    Ok(Some(is_same(leaf(x), answer)))
 }
 
-fn run_lines<R: Read>(leaf: Leaf, file: &mut R) -> io::Result<Tally> {
-    let mut read: u64 = 0;
-    let mut wrong: u64 = 0;
-    while read < MOST_LINES {
-        let outcome = run_line(leaf, file)?;
-        match outcome {
-            Outcome::Right => {}
-            Outcome::Wrong => wrong += 1,
-            Outcome::Ended => break,
+fn run_lines<F: Fn(f64) -> f64, R: Read>(leaf: F, file: &mut R) -> io::Result<Tally>
+    requires { F.IsAlwaysCallable leaf }
+{
+    let mut wrong = 0;
+    for read in 0..MOST_LINES {
+        match run_line(&leaf, file)? {
+            Some(is_right) => wrong += u64::from(!is_right),
+            None => return Ok(Tally { read, wrong }),
         }
-        read += 1;
     }
     Ok(Tally {
-        read: read,
-        wrong: wrong,
+        read: MOST_LINES,
+        wrong,
     })
 }
 
 // Runs the vectors of a file, and writes how many there were and how many came out wrong.
-fn run_file(rt: &(impl Files + Print), leaf: Leaf, name: &str) -> io::Result<()> {
+fn run_file<F: Fn(f64) -> f64>(rt: &(impl Files + Print), name: &str, leaf: F) -> io::Result<()>
+    requires { F.IsAlwaysCallable leaf }
+{
     let mut file = fs::open(rt, name)?;
     let tally = run_lines(leaf, &mut file)?;
     println!(rt; "{name}: {} vectors, {} wrong", tally.read, tally.wrong)
 }
 
 // Whether the file was run and its line written; else it says on standard error what failed.
-fn is_run(rt: &(impl Files + Print + Eprint), leaf: Leaf, name: &str) -> bool {
-    match run_file(rt, leaf, name) {
-        Ok(()) => true,
-        Err(error) => {
-            let _ = eprintln!(rt; "{name}: {error}");
-            false
-        }
+fn is_run<F: Fn(f64) -> f64>(rt: &(impl Files + Print + Eprint), name: &str, leaf: F) -> bool
+    requires { F.IsAlwaysCallable leaf }
+{
+    let run = run_file(rt, name, leaf);
+    if let Err(error) = run {
+        let _ = eprintln!(rt; "{name}: {error}");
     }
+    run.is_ok()
 }
 
-// Stops the run where ok is false, by a division by zero.
-fn expect(ok: bool)
-    requires { ok ≡ true }
+// Whether each number has the bits beside it.
+fn have_bits(numbers: &[(f64, u64)]) -> bool
+    ensures { result ≡ list_all (λ p. to_bits binary64 p.0 == p.1) numbers.now }
 {
-    let one: u8 = 1;
-    let _quotient = one / (ok as u8);
+    numbers
+        .iter()
+        .all(|(x, bits)| f64_to_bits_with_nan(*x) == *bits)
 }
 
 // The bits that stand beside the constants in leaves/src/constants.rt.
-fn constants_have_their_bits() {
-    expect(f64::to_bits(constants::PI) == 0x400921FB54442D18);
-    expect(f64::to_bits(constants::TAU) == 0x401921FB54442D18);
-    expect(f64::to_bits(constants::DEVIATION_LIMIT) == 0x3F60624DD2F1A9FC);
-    expect(f64::to_bits(constants::SCALE_LIMIT) == 0x3D719799812DEA11);
-    expect(f64::to_bits(constants::JOIN_LIMIT) == 0x3F1A36E2EB1C432D);
-    expect(f64::to_bits(constants::CLEARANCE_LIMIT) == 0x3F847AE147AE147B);
-    expect(f64::to_bits(constants::PHYSICAL_LIMIT) == 0x3E7AD7F29ABCAF48);
-    expect(f64::to_bits(constants::MICRO) == 0x3EB0C6F7A0B5ED8D);
-    expect(f64::to_bits(constants::END_LIMIT) == 0x3EE4F8B588E368F1);
-    expect(f64::to_bits(constants::PARALLEL) == 0x3E112E0BE826D695);
-    expect(f64::to_bits(constants::DEGENERATE_LIMIT) == 0x3C32725DD1D243AC);
+fn constants_have_their_bits() -> bool
+    ensures { IsTrue result }
+{
+    have_bits(&[
+        (constants::PI, 0x400921FB54442D18),
+        (constants::TAU, 0x401921FB54442D18),
+        (constants::DEVIATION_LIMIT, 0x3F60624DD2F1A9FC),
+        (constants::SCALE_LIMIT, 0x3D719799812DEA11),
+        (constants::JOIN_LIMIT, 0x3F1A36E2EB1C432D),
+        (constants::CLEARANCE_LIMIT, 0x3F847AE147AE147B),
+        (constants::PHYSICAL_LIMIT, 0x3E7AD7F29ABCAF48),
+        (constants::MICRO, 0x3EB0C6F7A0B5ED8D),
+        (constants::END_LIMIT, 0x3EE4F8B588E368F1),
+        (constants::PARALLEL, 0x3E112E0BE826D695),
+        (constants::DEGENERATE_LIMIT, 0x3C32725DD1D243AC),
+    ])
 }
 
 fn main(rt: HostRuntime) -> ExitCode {
-    constants_have_their_bits();
-    let root = is_run(&rt, Leaf::Root, "root");
-    let round = is_run(&rt, Leaf::Round, "round");
-    if root && round {
+    let constants = constants_have_their_bits();
+    let root = is_run(&rt, "root", |x| leaves::root(x));
+    let round = is_run(&rt, "round", |x| leaves::round(x));
+    if constants && root && round {
         ExitCode::SUCCESS
     } else {
         ExitCode::FAILURE

@@ -1,6 +1,6 @@
 -- Laws about the definitions of `vertex_fallback`, by subject, and its theorems.
 
--- corners with their neighbours, and the first that serves
-pub mod Corners
+-- a list's places, and the first corner that serves
+pub mod Serving
 -- demand 1: refusals
 pub mod Refusals

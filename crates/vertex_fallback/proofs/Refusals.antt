@@ -12,7 +12,7 @@ use Rattle.answers.specs.Outcome.{refused, OneOf}
 use Rattle.answers.proofs.FirstCheck.{first_holds}
 use Rattle.answers.proofs.Settled.{settled_zeros, settled_holds}
 use Rattle.vertex_fallback.specs.Vertices.{point_among, point_on_of}
-use Rattle.vertex_fallback.proofs.Corners.{among_status, among_zeros}
+use Rattle.vertex_fallback.proofs.Serving.{among_status, among_zeros}
 
 module _ (u_axis normal corners : List Float) where
   abbrev u : Place

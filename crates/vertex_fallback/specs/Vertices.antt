@@ -15,6 +15,7 @@ use Rattle.answers.specs.Lists.{any_of}
 use Rattle.points.specs.Bounds.{last_of}
 use Rattle.inside.specs.Inside.{inside_of}
 use Rattle.answers.specs.Answers.{valued}
+use Rattle.vertex_fallback.specs.declared.corners.Corner.{Corner}
 
 -- ---- 16 and 20
 
@@ -27,12 +28,7 @@ most_corners = 128
 unfoldable pub corners_wrong : List Float → Bool
 corners_wrong corners = not (eqb (length corners % 3) 0) || ltb (length corners / 3) 3 || ltb most_corners (length corners / 3)
 
--- ---- the corners, each with the one before it and the one after it, the last before the first
-
-pub record Corner : Type 0 where
-  pub before : Place
-  pub here : Place
-  pub after : Place
+-- ---- the corners (src/corners.rt), each with the one before it and the one after it, the last before the first
 
 abbrev pub corner : Place → Place → Place → Corner
 corner before here after = record { before = before; here = here; after = after }

@@ -3,6 +3,7 @@
 // call's is a number missing.
 #![tactic(auto)]
 
+mod corners;
 mod vertices;
 
 pub use vertices::point_on;

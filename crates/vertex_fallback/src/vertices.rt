@@ -1,153 +1,115 @@
 // The vertex fallback of faces.rs, on planes: the centre of the first corner and its two neighbours that
 // lies inside the ring of all corners.
-ghost use Rattle.std.specs.Prelude.{map, ◌≡◌, ◌*◌, ◌/◌, ◌<◌, eqb, length};
+ghost use Rattle.std.specs.Prelude.{map, ◌≡◌, ◌/◌, length};
+ghost use Rattle.std.specs.List.{find};
 ghost use Rattle.space.specs.Places.{triples};
-ghost use Rattle.sheet.specs.Content.{pairs, flat as flat_of};
-ghost use Rattle.answers.specs.Answers.{position_paper, is_position};
-ghost use Rattle.answers.specs.declared.outcomes.PositionAnswer.TheVariants.{Position};
-ghost use Rattle.vertex_fallback.specs.Vertices.{vertices_wrong, corners_wrong, corner, third as third_of, centre_of, degenerate, flattened, serves_of, first_serving, corners_of, point_among, point_on_of};
+ghost use Rattle.answers.specs.Answers.{position_paper};
+ghost use Rattle.vertex_fallback.specs.Vertices.{vertices_wrong, corners_wrong, flattened, serves_of, first_serving, corners_of, point_among, point_on_of};
 
-use answers::{ARGUMENT_LIMIT, PositionAnswer, any_number_beyond, is_missing};
-use leaves::constants::DEGENERATE_LIMIT;
+use crate::corners::{Corner, Corners, Places};
+use answers::{ARGUMENT_LIMIT, Refusal, any_number_beyond, is_missing};
+use sheet::Point;
 use space::Place;
 
 // As document 01 limits them.
 const MOST_CORNERS: usize = 128;
 
-// Two numbers a corner.
-const MOST_FLAT: usize = 256;
-
 // 16: a number of the three lists is missing or beyond 2^20.
+#[tactic(auto, unfolding(crate::specs::Vertices::vertices_wrong))]
 fn vertices_wrong(u_axis: &[f64], normal: &[f64], corners: &[f64]) -> bool
     ensures { result ≡ vertices_wrong u_axis.now normal.now corners.now }
 {
-    if is_missing(3, ARGUMENT_LIMIT, u_axis) {
-        true
-    } else if is_missing(3, ARGUMENT_LIMIT, normal) {
-        true
-    } else {
-        any_number_beyond(ARGUMENT_LIMIT, corners)
-    }
+    is_missing(3, ARGUMENT_LIMIT, u_axis)
+        || is_missing(3, ARGUMENT_LIMIT, normal)
+        || any_number_beyond(ARGUMENT_LIMIT, corners)
 }
 
 // 20: not in threes, fewer than 3 corners, or over 128.
+#[tactic(auto, unfolding(crate::specs::Vertices::corners_wrong))]
 fn corners_wrong(corners: &[f64]) -> bool
     ensures { result ≡ corners_wrong corners.now }
 {
-    if corners.len() % 3 != 0 {
-        true
-    } else if corners.len() / 3 < 3 {
-        true
-    } else {
-        MOST_CORNERS < corners.len() / 3
-    }
-}
-
-// One coordinate of the centre.
-fn third(a: f64, b: f64, c: f64) -> f64
-    ensures { result ≡ third_of a b c }
-{
-    (a + b + c) / 3.0
-}
-
-fn centre(before: Place, here: Place, after: Place) -> Place
-    ensures { result ≡ centre_of (corner before here after) }
-{
-    Place {
-        x: third(before.x, here.x, after.x),
-        y: third(before.y, here.y, after.y),
-        z: third(before.z, here.z, after.z),
-    }
-}
-
-// Whether the three corners lie all but on a line.
-fn is_degenerate(before: Place, here: Place, after: Place) -> bool
-    ensures { result ≡ degenerate (corner before here after) }
-{
-    let normal = space::cross(space::minus(here, before), space::minus(after, before));
-    space::dot(normal, normal) < DEGENERATE_LIMIT
-}
-
-// Whether the centre of the three serves: they are not degenerate, and it lies inside the ring.
-fn serves(u: Place, v: Place, ring: &[f64], before: Place, here: Place, after: Place) -> bool
-    ensures { result ≡ serves_of u v (pairs ring.now) (corner before here after) }
-{
-    if is_degenerate(before, here, after) {
-        return false;
-    }
-    let p = centre(before, here, after);
-    inside::inside(ring, space::dot(p, u), space::dot(p, v))
-}
-
-// The corners on the axes u and v, over a list that has room for just them.
-fn flatten(u: Place, v: Place, corners: &[f64], ring: &mut [f64])
-    requires { length ring.old ≡ 2 * (length corners.now / 3) }
-    ensures { ring.new ≡ flat_of (map (flattened u v) (triples corners.now)) }
-{
     let count = corners.len() / 3;
-    let mut k = 0;
-    while k < count {
-        let p = space::place_at(corners, 3 * k);
-        let at = 2 * k;
-        ring[at] = space::dot(p, u);
-        ring[at + 1] = space::dot(p, v);
-        k += 1;
-    }
+    corners.len() % 3 != 0 || count < 3 || MOST_CORNERS < count
 }
 
-fn position(p: Place) -> PositionAnswer
-    ensures { result ≡ Position p.x p.y p.z }
-{
-    PositionAnswer::Position(p.x, p.y, p.z)
+// The axes of the plane.
+#[derive(Clone, Copy, Debug, PartialEq)]
+pub struct Axes {
+    pub u: Place,
+    pub v: Place,
 }
 
-// The first corner that serves, where there are corners; 21: none does.
-fn first_serving(u: Place, v: Place, corners: &[f64], ring: &[f64]) -> PositionAnswer
-    requires { 0 < length corners.now / 3 }
-    ensures { (position_paper result ≡ first_serving (serves_of u v (pairs ring.now)) (corners_of (triples corners.now))) × (is_position result ≡ eqb (position_paper result).status 0) }
-{
-    let count = corners.len() / 3;
-    let start = space::place_at(corners, 0);
-    let mut before = space::place_at(corners, 3 * (count - 1));
-    let mut here = start;
-    let mut k = 1;
-    while k < count {
-        let after = space::place_at(corners, 3 * k);
-        if serves(u, v, ring, before, here, after) {
-            return position(centre(before, here, after));
+impl Axes {
+    // A place on the axes.
+    #[tactic(auto, unfolding(crate::specs::Vertices::flattened))]
+    fn flattened(self, p: Place) -> Point
+        ensures { result ≡ flattened self.u self.v p }
+    {
+        Point {
+            u: space::dot(p, self.u),
+            v: space::dot(p, self.v),
         }
-        before = here;
-        here = after;
-        k += 1;
     }
-    if serves(u, v, ring, before, here, start) {
-        return position(centre(before, here, start));
-    }
-    PositionAnswer::Refused(21)
-}
 
-// The answer, over a list that has room for just the corners on the axes.
-fn point_over(u: Place, v: Place, corners: &[f64], ring: &mut [f64]) -> PositionAnswer
-    requires { (0 < length corners.now / 3) × (length ring.old ≡ 2 * (length corners.now / 3)) }
-    ensures { (position_paper result ≡ point_among u v (triples corners.now)) × (is_position result ≡ eqb (position_paper result).status 0) }
-{
-    flatten(u, v, corners, ring);
-    first_serving(u, v, corners, ring)
+    // Whether the centre of the corner serves: it is not degenerate, and the centre lies inside the ring.
+    #[tactic(auto, unfolding(crate::specs::Vertices::serves_of))]
+    fn serves(self, ring: &[Point], corner: Corner) -> bool
+        ensures { result ≡ serves_of self.u self.v ring.now corner }
+    {
+        !corner.is_degenerate() && inside::inside(ring, self.flattened(corner.centre()))
+    }
+
+    // The corners on the axes, over a list that has room for just them.
+    fn flatten(self, corners: &[f64], ring: &mut [Point])
+        requires { length ring.old ≡ length corners.now / 3 }
+        ensures { ring.new ≡ map (flattened self.u self.v) (triples corners.now) }
+    {
+        let mut places = Places { list: corners };
+        for p in ring.iter_mut() {
+            if let Some(place) = places.next() {
+                *p = self.flattened(place);
+            }
+        }
+    }
+
+    // The first corner that serves.
+    fn first_corner(self, corners: &[f64], ring: &[Point]) -> Option<Corner>
+        ensures { result ≡ find (serves_of self.u self.v ring.now) (corners_of (triples corners.now)) }
+    {
+        Corners::around(corners).find(|corner| self.serves(ring, *corner))
+    }
+
+    // The answer, over a list that has room for just the corners on the axes; 21: none serves.
+    #[tactic(auto, using(crate::proofs::Serving::found, crate::proofs::Serving::none_found), unfolding(crate::specs::Vertices::point_among, answers::specs::Answers::paper_by, answers::specs::Outcome::number_of))]
+    fn point_among(self, corners: &[f64], ring: &mut [Point]) -> Result<Place, Refusal>
+        requires { length ring.old ≡ length corners.now / 3 }
+        ensures { position_paper result ≡ point_among self.u self.v (triples corners.now) }
+    {
+        self.flatten(corners, ring);
+        match self.first_corner(corners, ring) {
+            None => Err(Refusal::NoneServes),
+            Some(corner) => Ok(corner.centre()),
+        }
+    }
 }
 
 // A point inside a planar face, from its corners.
-pub fn point_on(u_axis: &[f64], normal: &[f64], corners: &[f64]) -> PositionAnswer
-    ensures { (position_paper result ≡ point_on_of u_axis.now normal.now corners.now) × (is_position result ≡ eqb (position_paper result).status 0) }
+#[tactic(auto, unfolding(crate::specs::Vertices::point_on_of, answers::specs::Outcome::settled, answers::specs::Outcome::first, answers::specs::Outcome::number_of, answers::specs::Answers::paper_by))]
+pub fn point_on(u_axis: &[f64], normal: &[f64], corners: &[f64]) -> Result<Place, Refusal>
+    ensures { position_paper result ≡ point_on_of u_axis.now normal.now corners.now }
 {
     if vertices_wrong(u_axis, normal, corners) {
-        return PositionAnswer::Refused(16);
+        return Err(Refusal::Argument);
     }
     if corners_wrong(corners) {
-        return PositionAnswer::Refused(20);
+        return Err(Refusal::Corners);
     }
     let u = space::place_at(u_axis, 0);
-    let v = space::cross(space::place_at(normal, 0), u);
-    let n = 2 * (corners.len() / 3);
-    let mut ring = [0.0f64; MOST_FLAT];
-    point_over(u, v, corners, &mut ring[..n])
+    let axes = Axes {
+        u,
+        v: space::cross(space::place_at(normal, 0), u),
+    };
+    let mut ring = [Point { u: 0.0, v: 0.0 }; MOST_CORNERS];
+    axes.point_among(corners, &mut ring[..corners.len() / 3])
 }

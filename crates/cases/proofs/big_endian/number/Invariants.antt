@@ -1,9 +1,7 @@
-use Rattle.std.proofs.Common.{◌≡◌, ◌-◌, ◌^◌, ◌<◌, ◌≤◌}
+-- n is the number of the first i bytes, and below 256^i, so that one byte more fits
+use Rattle.std.proofs.Common.{◌≡◌, ◌^◌, ◌<◌}
 use Rattle.cases.specs.BigEndian.{big}
 use Rattle.cases.proofs.big_endian.number.Given as goal
 
 abbrev pub invariant-loop-i : goal.invariant-loop-i
-invariant-loop-i l = (l.i ≤ l.k) × (l.n ≡ big l.s l.at l.i) × (l.n < 256 ^ l.i)
-
-abbrev pub decreases-loop-i : goal.decreases-loop-i
-decreases-loop-i l = l.k - l.i
+invariant-loop-i l = record { value : l.n ≡ big l.s l.at l.i; upper_bound : l.n < 256 ^ l.i }

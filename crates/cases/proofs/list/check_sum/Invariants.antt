@@ -1,10 +1,7 @@
-use Rattle.std.proofs.Common.{◌≡◌, ◌%◌, ◌^◌, ◌≤◌, length, drop}
+-- total is the sum of the first k places, modulo 2^64
+use Rattle.std.proofs.Common.{◌≡◌, ◌%◌, ◌^◌, take}
 use Rattle.cases.specs.Places.{weighted}
-use Rattle.cases.proofs.Places.{bit_sum}
 use Rattle.cases.proofs.list.check_sum.Given as goal
 
 abbrev pub invariant-loop-k : goal.invariant-loop-k
-invariant-loop-k l = (l.k ≤ length l.list) × (l.sum ≡ bit_sum (drop l.k l.list) % 2 ^ 64) × (l.total ≡ weighted 1 (drop l.k l.list) % 2 ^ 64)
-
-abbrev pub decreases-loop-k : goal.decreases-loop-k
-decreases-loop-k l = l.k
+invariant-loop-k l = l.total ≡ weighted 1 (take l.k l.list) % 2 ^ 64

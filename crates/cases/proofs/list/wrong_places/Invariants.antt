@@ -1,9 +1,7 @@
-use Rattle.std.proofs.Common.{◌≡◌, ◌+◌, ◌-◌, ◌≤◌, length, drop}
+-- wrong is the number of those among the first k places
+use Rattle.std.proofs.Common.{◌≡◌, ◌≤◌, take}
 use Rattle.cases.specs.Places.{wrong_from}
 use Rattle.cases.proofs.list.wrong_places.Given as goal
 
 abbrev pub invariant-loop-k : goal.invariant-loop-k
-invariant-loop-k l = (l.k ≤ length l.list) × (l.wrong ≤ l.k) × (l.wrong + wrong_from l.k (drop l.k l.list) l.numbers ≡ wrong_from 0 l.list l.numbers)
-
-abbrev pub decreases-loop-k : goal.decreases-loop-k
-decreases-loop-k l = length l.list - l.k
+invariant-loop-k l = record { value : l.wrong ≡ wrong_from 0 (take l.k l.list) l.numbers; upper_bound : l.wrong ≤ l.k }

@@ -16,16 +16,20 @@ returns-in_err-check c =
 
 pub returns-then-points-n : goal.returns-then-points-n
 unfolding status_of
-returns-then-points-n c = call_no_room c.args.s.now c.args.phase c.args.points.now (sym c.in_ok-check.ensures) (omega (arith, c.point_numbers-n.ensures, c.if-points-n.true))
+returns-then-points-n c = call_no_room c.args.s.now c.args.phase c.args.points.now (sym c.in_ok-check.ensures) (omega (arith, c.point_count-n.ensures, c.if-points-n.true))
 
 pub chart_within-requires : goal.chart_within-requires
 unfolding status_of
 chart_within-requires c =
-    (call_passes c.args.s.now c.args.phase c.args.points.now (sym c.in_ok-check.ensures) (omega (arith, c.point_numbers-n.ensures, c.if-points-n.false)), c.point_numbers-n.ensures, c.byte_at-count.ensures, c.if-n-le-SMALL_NUMBERS.true, omega arith)
+    (call_passes c.args.s.now c.args.phase c.args.points.now (sym c.in_ok-check.ensures) (omega (arith, c.point_count-n.ensures, c.if-points-n.false)), c.point_count-n.ensures, c.byte_at-count.ensures, c.if-n-le-SMALL_POINTS.true, omega arith)
 
-pub chart_within-requires-else-n-le-SMALL_NUMBERS : goal.chart_within-requires-else-n-le-SMALL_NUMBERS
+pub chart_within-requires-else-n-le-SMALL_POINTS : goal.chart_within-requires-else-n-le-SMALL_POINTS
 unfolding status_of
-chart_within-requires-else-n-le-SMALL_NUMBERS c =
+chart_within-requires-else-n-le-SMALL_POINTS c =
     let passes = sym c.in_ok-check.ensures in
     let most = points_most c.args.s.now (reads_of c.args.s.now c.args.phase passes) in
-    (call_passes c.args.s.now c.args.phase c.args.points.now passes (omega (arith, c.point_numbers-n.ensures, c.if-points-n.false)), c.point_numbers-n.ensures, c.byte_at-count.ensures, omega (arith, c.point_numbers-n.ensures, most), omega arith)
+    (call_passes c.args.s.now c.args.phase c.args.points.now passes (omega (arith, c.point_count-n.ensures, c.if-points-n.false)), c.point_count-n.ensures, c.byte_at-count.ensures, omega (arith, c.point_count-n.ensures, most), omega arith)
+
+pub overflow_mul-n : goal.overflow_mul-n
+unfolding status_of
+overflow_mul-n c = omega (arith, c.point_count-n.ensures, points_most c.args.s.now (reads_of c.args.s.now c.args.phase (sym c.in_ok-check.ensures)))

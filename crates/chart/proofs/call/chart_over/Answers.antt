@@ -26,4 +26,4 @@ returns c =
     fits_of s (length c.args.moved.now) (length c.args.ends.now) (reads_of s c.args.phase c.requires.0.passes) c.requires.1 (c.requires.2 ∙ sym (ring_number s)) in
     let z = sheet_of c.args.s.now in
     let t = told_chosen _ z c.args.phase _ fit c.find.ensures.0 c.in_ok-found.was in
-    call_answered c.requires.0 t.0 c.answer.result (c.find.ensures.1 ∙ laid_points_lem z c.args.phase c.args.moved.now fit) c.write.ensures (ap (λ (x : Found). x.frame) t.1) (ap (λ (x : Found). x.best) t.1) c.answer.ensures
+    call_answered c.requires.0 t.0 c.values.result (c.find.ensures.1 ∙ laid_points_lem z c.args.phase c.args.moved.now fit) c.write.ensures (ap (λ (x : Found). x.frame) t.1) (ap (λ (x : Found). x.best) t.1) c.values.ensures

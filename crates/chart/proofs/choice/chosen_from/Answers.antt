@@ -1,15 +1,24 @@
--- `chart::choice::chosen_from` chooses the candidate: the marks are those of all rings, the list has the numbers of the
--- segments of all rings in its front, and the search from both is the definition's.
-use mathlib.Core.Path.{refl, ◌∙◌}
-use Prim.Native.Nat.{◌≤◌}
+-- `chart::choice::chosen_from` chooses the candidate: the marks are those of all rings, the list has the segments of all
+-- rings in its front, and the search from both is the definition's.
+use mathlib.Core.Path.{refl, ap, ◌∙◌}
 use native.Mathlib.Omega.{arith}
-use Rattle.frame.specs.Parts.{rings_from}
+use lib.Ieee.{Float}
+use lib.ListN.{take}
+use Rattle.std.specs.Prelude.{Option}
+use Rattle.clearance.specs.SegmentLists.{laid_rings}
+use Rattle.search.specs.Chosen.{chosen_among}
+use Rattle.frame.specs.Parts.{rings_in}
 use Rattle.chart.proofs.Choosing.{marked, chosen_from}
 use Rattle.chart.proofs.choice.chosen_from.Goals as goal
 
 pub returns : goal.returns
+unfolding rings_in
 returns c =
+    let x = c.args in
     let r = c.lay_rings-n in
-    let m = c.cover in
-    let few : r.result ≤ 8704 = omega (arith, r.ensures.0, c.requires.2) in
-    c.choose.ensures ∙ chosen_from c.args.frame c.args.sense (rings_from 0 c.args.ends.now c.args.points.now) r.new.list r.result 8704 m.new.covered few r.ensures.1 (marked c.args.frame c.args.sense c.args.ends.now c.args.points.now _ _ c.requires.3 c.requires.2 refl m.ensures)
+    let marks = c.cover.new.covered in
+    let period = c.period_of-period.ensures in
+    c.choose.ensures
+    ∙ ap (λ (p : Option Float). chosen_among p (take 2176 (take r.result r.new.list)) marks) period
+    ∙ chosen_from x.f x.sense (rings_in x.rings) r.new.list r.result 2176 marks (omega (arith, r.ensures.0, c.requires.1)) (r.ensures.1 ∙ ap (λ (p : Option Float). laid_rings p (rings_in x.rings)) period)
+    (marked x.f x.sense x.rings.ends.now x.rings.points.now _ _ c.requires.3 c.requires.2 refl c.cover.ensures)

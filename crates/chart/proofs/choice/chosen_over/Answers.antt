@@ -2,17 +2,20 @@
 -- rings.
 use mathlib.Core.Path.{ap, ◌∙◌}
 use native.Mathlib.Omega.{arith}
+use Rattle.frame.specs.Parts.{rings_in}
 use Rattle.chart.specs.Chart.{candidate}
-use Rattle.chart.proofs.Normalising.{normal_rings, normal_ascends, normal_length}
+use Rattle.chart.proofs.Normalising.{normal_rings, normal_length, normal_count}
 use Rattle.chart.proofs.choice.chosen_over.Goals as goal
 
 pub chosen_from-requires : goal.chosen_from-requires
+unfolding rings_in
 chosen_from-requires c =
-    let changed = c.normalise_into in
-    let same = normal_length c.args.f c.args.normal.now c.requires.0 c.requires.1 changed.ensures in
-    (normal_ascends c.args.f c.args.normal.now c.requires.0 c.requires.1 changed.ensures, omega (arith, same, c.requires.2), omega (arith, same, c.requires.3), c.requires.4)
+    let x = c.args in
+    let changed = c.normalise_into.ensures in
+    (omega (arith, normal_count x.f x.normal.now c.requires.0 c.requires.1 changed, c.requires.2), c.requires.3, omega (arith, normal_length x.f x.normal.now c.requires.0 c.requires.1 changed, c.requires.2, c.requires.3), c.requires.4)
 
 pub returns : goal.returns
+unfolding rings_in
 returns c =
-    let changed = c.normalise_into in
-    c.chosen_from.ensures ∙ ap (candidate c.args.f c.args.sense) (normal_rings c.args.f c.args.normal.now c.requires.0 c.requires.1 changed.ensures)
+    let x = c.args in
+    c.chosen_from.ensures ∙ ap (candidate x.f x.sense) (normal_rings x.f x.normal.now c.requires.0 c.requires.1 c.normalise_into.ensures)

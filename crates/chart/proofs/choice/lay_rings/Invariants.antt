@@ -1,13 +1,13 @@
-use mathlib.Core.Path.{◌≡◌}
-use Prim.Native.Nat.{◌-◌, ◌*◌, ◌≤◌}
-use lib.ListN.{length, drop}
-use Rattle.frame.specs.Parts.{rings_from, Ascends}
-use Rattle.chart.proofs.Choosing.{numbers_of, Laid}
+use mathlib.Core.List.{flatten}
+use Prim.Native.Nat.{◌+◌, ◌≤◌}
+use lib.ListN.{length}
+use Rattle.frame.specs.Parts.{rings_in, rings_left}
+use Rattle.clearance.specs.SegmentLists.{laid_rings}
+use Rattle.chart.proofs.Choosing.{Laid}
 use Rattle.chart.proofs.choice.lay_rings.Given as goal
 
-abbrev pub invariant-loop-k : goal.invariant-loop-k
-invariant-loop-k l =
-    (l.at ≤ 2 * l.from) × Ascends l.from (drop l.k l.ends) (length l.points) × (length l.list ≡ length l.initial.list) × Laid l.periodic l.period l.points l.ends (numbers_of l.periodic l.period (rings_from 0 l.ends l.points)) l.list l.list l.at l.from l.k
-
-abbrev pub decreases-loop-k : goal.decreases-loop-k
-decreases-loop-k l = length l.ends - l.k
+abbrev pub invariant-loop-ring : goal.invariant-loop-ring
+invariant-loop-ring l = record {
+  room : l.at + length (flatten (rings_left l.ring-iterator)) ≤ length l.list;
+  laid : Laid l.period (laid_rings l.period (rings_in l.rings)) l.list l.list l.at (rings_left l.ring-iterator);
+}

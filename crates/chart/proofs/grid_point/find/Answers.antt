@@ -3,7 +3,6 @@
 -- its clearance against the limit.
 use mathlib.Core.List.{List, flatten}
 use Prim.Native.Nat.{ℕ}
-use lib.Ieee.{Float}
 use mathlib.Core.Path.{◌≡◌, sym, ap, ap₂, ◌∙◌}
 use mathlib.Core.Bool.{Bool, true}
 use native.Mathlib.Omega.{arith}
@@ -11,13 +10,13 @@ use lib.ListN.{length}
 use Rattle.std.specs.Prelude.{Ok}
 use Rattle.std.proofs.lemmas.Result.{err_from_is_err_and}
 use Rattle.answers.specs.Outcome.{numbered}
-use Rattle.sheet.specs.Content.{Sheet, flat}
+use Rattle.sheet.specs.Content.{Point, Sheet}
 use Rattle.frame.specs.declared.framing.Frame.{Frame}
 use Rattle.search.specs.declared.candidate.Candidate.{Candidate}
 use Rattle.sheet.specs.Layout.{sheet_of}
 use Rattle.sheet.proofs.Planes.{sheet_sense}
 use Rattle.frame.specs.Framing.{moved_rings, frame}
-use Rattle.frame.specs.Parts.{ends_from, rings_from}
+use Rattle.frame.specs.Parts.{ends_from, rings_from, rings_in}
 use Rattle.frame.specs.Seam.{fitting, laid_points, laid_ends}
 use Rattle.frame.proofs.Counting.{ring_number}
 use Rattle.frame.proofs.LaidOut.{fitting_is, laid_points_lem, laid_ends_lem, told_ready, told_refused, passed_fits}
@@ -29,15 +28,15 @@ use Rattle.chart.proofs.Finding.{above_limit, found_refused, found_14, found_cho
 use Rattle.chart.proofs.grid_point.find.Goals as goal
 
 -- lists of the sheet's size hold its moved rings
-record Held (z : Sheet) (phase : ℕ) (points : List Float) (ends : List ℕ) : Type 0 where
-  points_are : points ≡ flat (flatten (moved_rings z phase))
+record Held (z : Sheet) (phase : ℕ) (points : List Point) (ends : List ℕ) : Type 0 where
+  points_are : points ≡ flatten (moved_rings z phase)
   ends_are : ends ≡ ends_from 0 (moved_rings z phase)
 
-held : (z : Sheet) (phase : ℕ) (before : List Float) (was : List ℕ) {fits : Bool} {points : List Float} {ends : List ℕ} → fits ≡ true → points ≡ laid_points fits z phase before → ends ≡ laid_ends fits z phase was → Held z phase points ends
+held : (z : Sheet) (phase : ℕ) (before : List Point) (was : List ℕ) {fits : Bool} {points : List Point} {ends : List ℕ} → fits ≡ true → points ≡ laid_points fits z phase before → ends ≡ laid_ends fits z phase was → Held z phase points ends
 held z phase before was fit e g = record { points_are = e ∙ laid_points_lem z phase before fit; ends_are = g ∙ laid_ends_lem z phase was fit }
 
 -- and the candidate of their rings is the sheet's
-best : (z : Sheet) (phase : ℕ) {points : List Float} {ends : List ℕ} {f : Frame} {sense : ℕ} {c : Candidate} → Held z phase points ends → f ≡ frame z phase → sense ≡ z.sense →
+best : (z : Sheet) (phase : ℕ) {points : List Point} {ends : List ℕ} {f : Frame} {sense : ℕ} {c : Candidate} → Held z phase points ends → f ≡ frame z phase → sense ≡ z.sense →
     c ≡ candidate f sense (normalised_by f (rings_from 0 ends points)) → c ≡ chosen z phase
 best z phase h e g k =
     k
@@ -64,7 +63,7 @@ returns-in_err-frame c =
     rw (p.1, p.2) (found_refused b z phase _ (told_refused z phase b _ c.lay_out.ensures.0 c.in_err-frame.was), c.lay_out.ensures.1, c.lay_out.ensures.2)
 
 pub returns-then-best : goal.returns-then-best
-unfolding numbered
+unfolding numbered rings_in
 returns-then-best c =
     let z = sheet_of c.args.s.now in
     let fits = fitting z (length c.args.points.now) (length c.args.ends.now) in
@@ -74,7 +73,7 @@ returns-then-best c =
     (ap Ok (ap₂ found ready.1 best-is) ∙ found_chosen fits z c.args.phase ready.0 (above_limit best-is c.if-best.true), c.lay_out.ensures.1, c.lay_out.ensures.2)
 
 pub returns-else-best : goal.returns-else-best
-unfolding numbered
+unfolding numbered rings_in
 returns-else-best c =
     let z = sheet_of c.args.s.now in
     let fits = fitting z (length c.args.points.now) (length c.args.ends.now) in

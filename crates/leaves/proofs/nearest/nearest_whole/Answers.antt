@@ -2,6 +2,7 @@
 -- is exact and n is the whole part of 2a / c.
 -- Then (n + 1) / 2 is the whole part of (2a + c) / 2c, and is small enough to be cast without loss.
 use Rattle.std.proofs.Common.{◌≡◌, ℕ, suc, ◌+◌, ◌*◌, ◌/◌, ◌^◌, ◌<◌, ◌≤◌, true, false, T, ℤ, pos, sym, ap, ◌∙◌, subst, true≢false, lt_of_lt_of_le, mul_assoc, mul_comm, div-lt_iff_lt-mul, lt_of_mul-lt-mul_right, mul-lt-mul_of_pos_right, mul-pos, pow-suc, mul_left_comm, two-mul, arith, le→leb, ltb→lt, lt→ltb, pow_pos, pow_mono, pow-add}
+use Rattle.std.proofs.lemmas.Float.{T_from_true}
 use native.Mathlib.Nat.{add-div_right, div-div-eq-div-mul, min-eq_left}
 use lib.Ieee.{Float, nan, inf, fin, Format, binary64, prec, emax, low, hid, up, down, round, sum, add, lt, of_int, to_unsigned, in_float, fits, of_bits}
 use lib.Ieee.Exact.{HasValue, round_exact}
@@ -88,7 +89,7 @@ halved (fin false m e) h p q =
     }
 
 held : (c : goal.Start) → T (fits binary64 c.args.x)
-held c = subst T (sym c.well_formed.0.1) tt
+held c = T_from_true _ c.well_formed.0.1
 
 at : (c : goal.Start) → Halved c.args.x
 at c = halved c.args.x (held c) c.requires.above_zero c.requires.below

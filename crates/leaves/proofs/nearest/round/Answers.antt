@@ -1,6 +1,7 @@
 -- `leaves::nearest::round` is `round_of`: a negative value is rounded as its magnitude is, and what is not rounded has
 -- no fraction. From 2 ^ 52 on no value has one.
-use Rattle.std.proofs.Common.{◌≡◌, ◌+◌, ◌*◌, ◌^◌, Bool, true, false, not, T, sym, refl, ap, ◌∙◌, subst, arith, ltb→lt, lt→ltb, nltb→le}
+use Rattle.std.proofs.Common.{◌≡◌, ◌+◌, ◌*◌, ◌^◌, true, false, not, T, sym, refl, ap, ◌∙◌, arith, ltb→lt, lt→ltb, nltb→le}
+use Rattle.std.proofs.lemmas.Float.{T_from_true, T_from_false}
 use lib.Ieee.{Float, nan, inf, fin, binary64, up, down, lt, neg, fits, of_bits}
 use lib.Ieee.Fits.{neg-fits}
 use Rattle.leaves.specs.Constants.{plus_zero}
@@ -35,17 +36,11 @@ neither (inf s) h p q = refl
 neither (fin true m e) h p q = sym (round_zero binary64 true m e h (omega (arith, nltb→le 0 (m * up e * 1 + 0 * 2 ^ 0 * down e) q)))
 neither (fin false m e) h p q = sym (round_zero binary64 false m e h (omega (arith, nltb→le (0 * 2 ^ 0 * down e) (m * up e * 1) p)))
 
-passed : {b : Bool} → b ≡ true → T b
-passed e = subst T (sym e) tt
-
-failed : {b : Bool} → b ≡ false → T (not b)
-failed e = subst (λ (x : Bool). T (not x)) (sym e) tt
-
 pub nearest_whole-requires-then-x-4-clause-above_zero : goal.nearest_whole-requires-then-x-4-clause-above_zero
-nearest_whole-requires-then-x-4-clause-above_zero c = above c.args.x (passed c.if-x-3.true)
+nearest_whole-requires-then-x-4-clause-above_zero c = above c.args.x (T_from_true _ c.if-x-3.true)
 
 pub returns-else-x-2 : goal.returns-else-x-2
-returns-else-x-2 c = large c.args.x (passed c.well_formed.0.1) (passed c.if-x.true) (failed c.if-x-2.false)
+returns-else-x-2 c = large c.args.x (T_from_true _ c.well_formed.0.1) (T_from_true _ c.if-x.true) (T_from_false _ c.if-x-2.false)
 
 pub returns-then-x-4 : goal.returns-then-x-4
 returns-then-x-4 c = ap neg c.nearest_whole-then-x-4.ensures ∙ turned c.args.x
@@ -53,7 +48,7 @@ returns-then-x-4 c = ap neg c.nearest_whole-then-x-4.ensures ∙ turned c.args.x
 pub returns-else-x-4 : goal.returns-else-x-4
 returns-else-x-4 c =
     let x = c.args.x in
-    sym (neg_neg x) ∙ ap neg (large (neg x) (neg-fits binary64 x (passed c.well_formed.0.1)) (above x (passed c.if-x-3.true)) (failed c.if-x-4.false)) ∙ turned x
+    sym (neg_neg x) ∙ ap neg (large (neg x) (neg-fits binary64 x (T_from_true _ c.well_formed.0.1)) (above x (T_from_true _ c.if-x-3.true)) (T_from_false _ c.if-x-4.false)) ∙ turned x
 
 pub returns-else-x-3 : goal.returns-else-x-3
-returns-else-x-3 c = neither c.args.x (passed c.well_formed.0.1) (failed c.if-x.false) (failed c.if-x-3.false)
+returns-else-x-3 c = neither c.args.x (T_from_true _ c.well_formed.0.1) (T_from_false _ c.if-x.false) (T_from_false _ c.if-x-3.false)

@@ -1,34 +1,24 @@
--- `leaves::square_root::digits` finds the digits of the radicand's root. The invariant is `Found`, the measure the
--- number of digits still to be found.
+-- `leaves::square_root::digits` finds the digits of the radicand's root. The invariant is `Found`.
 use Rattle.std.proofs.Common.{◌≡◌, ℕ, ◌-◌, ◌*◌, ◌%◌, ◌^◌, ◌≤◌, subst, arith}
 use Rattle.leaves.specs.Engine.{radicand}
-use Rattle.leaves.proofs.DigitSteps.{Found, started, Turn, turn, Turned, turned, finished}
+use Rattle.leaves.proofs.DigitSteps.{Found, Turn, turn, Turned, turned, finished}
 use Rattle.leaves.proofs.square_root.digits.Goals as goal
-
-pub loop-place-init : goal.loop-place-init
-loop-place-init c = started c.args.root c.args.places c.args.rest c.requires
 
 -- the turn that a pass of the loop makes, before the digit is known and after
 begun : (c : goal.In-loop-place)
     → Turn (radicand c.args.root c.args.places c.args.rest) c.loop-place.found c.loop-place.left (c.loop-place.place - 1)
 begun c = let l = c.loop-place in turn _ l.found l.left l.place l.invariant (omega arith)
 
-done : (c : goal.After-next_digit-digit)
+done : (c : goal.After-from-digit)
     → Turned (radicand c.args.root c.args.places c.args.rest) c.loop-place.found c.loop-place.left
-    (c.loop-place.place - 1) (1 * 2 ^ (c.loop-place.place - 1) % 2 ^ 64) c.next_digit-digit.result
+    (c.loop-place.place - 1) (1 * 2 ^ (c.loop-place.place - 1) % 2 ^ 64) c.from-digit.result
 done c =
     let l = c.loop-place in
     let t = begun c.before in
-    turned _ l.found l.left (l.place - 1) (1 * 2 ^ (l.place - 1) % 2 ^ 64) c.next_digit-digit.result t t.weight c.next_digit-digit.ensures
-
-pub overflow_add-step : goal.overflow_add-step
-overflow_add-step c = let t = begun c in omega (arith, t.room)
+    turned _ l.found l.left (l.place - 1) (1 * 2 ^ (l.place - 1) % 2 ^ 64) c.from-digit.result t t.weight c.from-digit.ensures
 
 pub overflow_shl-step : goal.overflow_shl-step
 overflow_shl-step c = let t = begun c in omega (arith, t.below)
-
-pub overflow_add-step-in-loop-place : goal.overflow_add-step-in-loop-place
-overflow_add-step-in-loop-place c = let t = begun c in omega (arith, t.room, t.weight)
 
 pub overflow_shl-found : goal.overflow_shl-found
 overflow_shl-found c = let t = begun c.before in omega (arith, t.below)

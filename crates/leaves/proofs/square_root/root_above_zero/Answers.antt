@@ -1,6 +1,7 @@
 -- `leaves::square_root::root_above_zero`: the fields of the bits say what the value is, and each arm takes the root of
 -- that fraction.
-use Rattle.std.proofs.Common.{◌≡◌, ℕ, ◌+◌, ◌-◌, ◌/◌, ◌%◌, ◌^◌, ◌<◌, T, true, sym, subst, arith}
+use Rattle.std.proofs.Common.{◌≡◌, ℕ, ◌+◌, ◌-◌, ◌/◌, ◌%◌, ◌^◌, ◌<◌, T, true, arith}
+use Rattle.std.proofs.lemmas.Float.{T_from_true}
 use lib.Ieee.{Float, binary64, of_bits, to_bits, lt, fits}
 use Rattle.leaves.specs.Constants.{plus_zero}
 use Rattle.leaves.specs.Root.{root_of}
@@ -11,7 +12,7 @@ use Rattle.leaves.proofs.square_root.root_above_zero.Goals as goal
 -- the fields of x's bits
 fields : (x : Float) → fits binary64 x ≡ true → T (lt plus_zero x) → (to_bits binary64 x < 2 ^ 63) × Unpacked binary64 x (to_bits binary64 x / 2 ^ 52) (to_bits binary64 x % 2 ^ 52)
 unfolding of_bits
-fields x h p = unpacked binary64 x (subst T (sym h) tt) (above_zero x p)
+fields x h p = unpacked binary64 x (T_from_true _ h) (above_zero x p)
 
 pub root_of_subnormal-requires-clause-not_zero : goal.root_of_subnormal-requires-clause-not_zero
 root_of_subnormal-requires-clause-not_zero c = ((fields c.args.x c.well_formed.0.1 c.requires).1.subnormal c.if-field-eq0.true).0

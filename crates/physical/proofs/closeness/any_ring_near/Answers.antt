@@ -40,22 +40,22 @@ loop-block-init c =
     let x = c.args in (
       tt,
       tt,
-      ap (λ (rs : List (List Coedge)). rings_near x.limit x.p false (ring_images rs x.images.now))
+      ap (λ (rs : List (List Coedge)). rings_near x.reach.limit x.p false (ring_images rs x.images.now))
           (ap (map ring) (c.into_iter-block-iterator.ensures.into_iter_gives ∙ c.ring_blocks-block-items.ensures) ∙ sym (rings_are x.s.now)),
     )
 
-pub returns-then-any_near : goal.returns-then-any_near
-returns-then-any_near c =
+pub returns-then-is_ring_near : goal.returns-then-is_ring_near
+returns-then-is_ring_near c =
     let x = c.args in
-    ring_found x.limit x.p (ring_images (map ring c.next.new.self) c.split_at.result.1.now) (near_more x.limit x.p c.loop-block.rest.now c.byte_at.result c.min.result c.in-Some.ensures.steps c.byte_at.ensures c.min.ensures c.split_at.ensures.front c.split_at.ensures.back (sym c.if-any_near.true ∙ c.any_near.ensures) c.loop-block.invariant.2)
+    ring_found x.reach.limit x.p (ring_images (map ring c.next.new.self) c.split_at.result.1.now) (near_more x.reach.limit x.p c.loop-block.rest.now c.byte_at.result c.min.result c.in-Some.ensures.steps c.byte_at.ensures c.min.ensures c.split_at.ensures.front c.split_at.ensures.back (sym c.if-is_ring_near.true ∙ c.is_ring_near.ensures) c.loop-block.invariant.2)
 
 pub loop-block-preserved : goal.loop-block-preserved
 loop-block-preserved c =
     let x = c.args in
-    (tt, tt, near_more x.limit x.p c.loop-block.rest.now c.byte_at.result c.min.result c.in-Some.ensures.steps c.byte_at.ensures c.min.ensures c.split_at.ensures.front c.split_at.ensures.back (sym c.if-any_near.false ∙ c.any_near.ensures) c.loop-block.invariant.2)
+    (tt, tt, near_more x.reach.limit x.p c.loop-block.rest.now c.byte_at.result c.min.result c.in-Some.ensures.steps c.byte_at.ensures c.min.ensures c.split_at.ensures.front c.split_at.ensures.back (sym c.if-is_ring_near.false ∙ c.is_ring_near.ensures) c.loop-block.invariant.2)
 
 pub returns : goal.returns
 unfolding ring_images
 returns c =
     let x = c.args in
-    ring_none x.limit x.p (ap (λ (bs : List (List ℕ)). ring_images (map ring bs) c.loop-block.rest.now) c.in-None.ensures.steps.0) c.loop-block.invariant.2
+    ring_none x.reach.limit x.p (ap (λ (bs : List (List ℕ)). ring_images (map ring bs) c.loop-block.rest.now) c.in-None.ensures.steps.0) c.loop-block.invariant.2

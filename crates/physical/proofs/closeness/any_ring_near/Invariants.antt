@@ -10,4 +10,4 @@ abbrev pub invariant-loop-block : goal.invariant-loop-block
 invariant-loop-block l =
     (goal.iterator-loop-block).can_next l.block-iterator
     × (goal.iterator-loop-block).is_finite l.block-iterator
-    × (foldl (any_near l.limit l.p) false (ring_images (map ring l.block-iterator) l.rest) ≡ foldl (any_near l.limit l.p) false (ring_images (sheet_of l.s).rings l.images))
+    × (foldl (any_near l.reach.limit l.p) false (ring_images (map ring l.block-iterator) l.rest) ≡ foldl (any_near l.reach.limit l.p) false (ring_images (sheet_of l.s).rings l.images))

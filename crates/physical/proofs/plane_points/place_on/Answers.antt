@@ -3,4 +3,4 @@ use Rattle.physical.proofs.PlaneNumbers.{on_plane_lem}
 use Rattle.physical.proofs.plane_points.place_on.Goals as goal
 
 pub returns : goal.returns
-returns c = rw (c.on_axes.ensures, c.axes_of.ensures) (on_plane_lem _ _)
+returns c = rw (c.place.ensures, c.of.ensures) (on_plane_lem _ _)

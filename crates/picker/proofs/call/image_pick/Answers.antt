@@ -26,10 +26,10 @@ returns-then-images_wrong c = image_wrong c.args.s.now c.args.phase c.args.image
 pub image_within-requires : goal.image_within-requires
 unfolding status_of
 image_within-requires c =
-    (record { passes = sym c.in_ok-check.ensures; images_right = sym c.images_wrong.ensures ∙ c.if-images_wrong.false }, c.point_numbers-n.ensures, c.byte_at-count.ensures, c.if-n-le-SMALL_NUMBERS.true, omega arith)
+    (record { passes = sym c.in_ok-check.ensures; images_right = sym c.images_wrong.ensures ∙ c.if-images_wrong.false }, c.point_count-n.ensures, c.byte_at-count.ensures, c.if-n-le-SMALL_POINTS.true, omega arith)
 
-pub image_within-requires-else-n-le-SMALL_NUMBERS : goal.image_within-requires-else-n-le-SMALL_NUMBERS
+pub image_within-requires-else-n-le-SMALL_POINTS : goal.image_within-requires-else-n-le-SMALL_POINTS
 unfolding status_of
-image_within-requires-else-n-le-SMALL_NUMBERS c =
+image_within-requires-else-n-le-SMALL_POINTS c =
     let most = points_most c.args.s.now (reads_of c.args.s.now c.args.phase (sym c.in_ok-check.ensures)) in
-    (record { passes = sym c.in_ok-check.ensures; images_right = sym c.images_wrong.ensures ∙ c.if-images_wrong.false }, c.point_numbers-n.ensures, c.byte_at-count.ensures, omega (arith, c.point_numbers-n.ensures, most), omega arith)
+    (record { passes = sym c.in_ok-check.ensures; images_right = sym c.images_wrong.ensures ∙ c.if-images_wrong.false }, c.point_count-n.ensures, c.byte_at-count.ensures, omega (arith, c.point_count-n.ensures, most), omega arith)

@@ -21,10 +21,10 @@ returns-then-byte_at-ne0 c = plane_wrong_kind c.args.s.now (sym c.in_ok-check.en
 pub plane_within-requires : goal.plane_within-requires
 unfolding status_of
 plane_within-requires c =
-    (planar c.args.s.now (sym c.in_ok-check.ensures) (sym c.byte_at.ensures ∙ c.if-byte_at-ne0.false), c.point_numbers-n.ensures, c.byte_at-count.ensures, c.if-n-le-SMALL_NUMBERS.true, omega arith)
+    (planar c.args.s.now (sym c.in_ok-check.ensures) (sym c.byte_at.ensures ∙ c.if-byte_at-ne0.false), c.point_count-n.ensures, c.byte_at-count.ensures, c.if-n-le-SMALL_POINTS.true, omega arith)
 
-pub plane_within-requires-else-n-le-SMALL_NUMBERS : goal.plane_within-requires-else-n-le-SMALL_NUMBERS
+pub plane_within-requires-else-n-le-SMALL_POINTS : goal.plane_within-requires-else-n-le-SMALL_POINTS
 unfolding status_of
-plane_within-requires-else-n-le-SMALL_NUMBERS c =
+plane_within-requires-else-n-le-SMALL_POINTS c =
     let reads = sym c.in_ok-check.ensures in
-    (planar c.args.s.now reads (sym c.byte_at.ensures ∙ c.if-byte_at-ne0.false), c.point_numbers-n.ensures, c.byte_at-count.ensures, omega (arith, c.point_numbers-n.ensures, points_most c.args.s.now reads), omega arith)
+    (planar c.args.s.now reads (sym c.byte_at.ensures ∙ c.if-byte_at-ne0.false), c.point_count-n.ensures, c.byte_at-count.ensures, omega (arith, c.point_count-n.ensures, points_most c.args.s.now reads), omega arith)

@@ -1,0 +1,2 @@
+-- Laws about the line and the answer.
+pub mod Lines

@@ -1,0 +1,2 @@
+-- A law about pages.
+pub mod Pages

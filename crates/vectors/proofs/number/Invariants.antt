@@ -1,6 +1,0 @@
--- the measure is the number of digits that are left
-use Rattle.std.proofs.Common.{◌-◌}
-use Rattle.vectors.proofs.number.Given as goal
-
-abbrev pub decreases-loop-i : goal.decreases-loop-i
-decreases-loop-i l = 16 - l.i
