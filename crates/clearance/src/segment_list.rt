@@ -5,7 +5,7 @@ ghost use Rattle.points.specs.Segments.{segments};
 ghost use Rattle.clearance.specs.Clearance.{laid};
 
 use points::Segment;
-use sheet::Point;
+use sheet::{ORIGIN, Point};
 
 // The segments of the largest accepted sheet.
 pub const MOST_SEGMENTS: usize = 2176;
@@ -16,8 +16,8 @@ pub const SMALL_SEGMENTS: usize = 272;
 
 // What stands in a list before its segments do.
 pub const NO_SEGMENT: Segment = Segment {
-    a: Point { u: 0.0, v: 0.0 },
-    b: Point { u: 0.0, v: 0.0 },
+    a: ORIGIN,
+    b: ORIGIN,
 };
 
 // The segment as it is laid: on a periodic chart its end moved by whole turns to be near its start.
