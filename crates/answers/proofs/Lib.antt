@@ -12,5 +12,7 @@ pub mod Finite
 pub mod Present
 -- the paper's numbers of each answer
 pub mod Papers
+-- what a call answers, a check at a time
+pub mod Calls
 -- what a call returns
 pub mod Returning

@@ -18,6 +18,14 @@ pub not_zero : (r : Refusal) → number_of r ≡ 0 → ⊥
 unfolding number_of
 not_zero r e = search rules
 
+pub status_ok : {A : Type 0} (x : A) → status_of (Ok x) ≡ 0
+unfolding status_of
+status_ok x = refl
+
+pub status_err : (A : Type 0) (r : Refusal) → status_of {A = A} (Err r) ≡ number_of r
+unfolding status_of
+status_err A r = refl
+
 pub refused_somewhere : (A : Type 0) (r : Refusal) → status_of {A = A} (Err r) ≡ 0 → ⊥
 unfolding status_of
 refused_somewhere A r e = not_zero r e

@@ -7,7 +7,7 @@ use native.Mathlib.Omega.{arith}
 use lib.Dec.{eqb}
 use borrow.Author.Tests.{eq-eqb, eqb-true, ne_eqb}
 use Rattle.std.specs.Prelude.{Result, Ok, Err}
-use Rattle.answers.specs.Outcome.{Check, check, first, Numbers, refused, settled, settle, number_of, status_of, numbered}
+use Rattle.answers.specs.Outcome.{Check, check, first, Numbers, refused, settled, settle, number_of, numbered}
 use Rattle.answers.specs.declared.refusal.Refusal.{Refusal}
 use Rattle.answers.proofs.FirstCheck.{first_here, first_later}
 

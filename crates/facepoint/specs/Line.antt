@@ -7,6 +7,5 @@ use Rattle.answers.specs.declared.refusal.Refusal.{Refusal}
 use Rattle.text.specs.Line.{point_line, refusal_line}
 
 unfoldable pub line_of : Result Values Refusal → List ℕ
-unfolding number_of
 line_of (Ok v) = point_line v.x v.y v.z v.clearance v.count
 line_of (Err r) = refusal_line (number_of r)

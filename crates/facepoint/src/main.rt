@@ -35,7 +35,7 @@ enum Failure {
 }
 
 // The plane pick of the input, or 1 where it is too long.
-#[tactic(auto, unfolding(crate::specs::Answer::answer_to, answers::specs::Answers::paper_by, answers::specs::Outcome::number_of))]
+#[tactic(auto, using(answers::proofs::Calls::calls), unfolding(crate::specs::Answer::answer_to))]
 fn answer_to(input: &[u8]) -> Answer
     ensures { paper result ≡ answer_to input.now }
 {

@@ -7,9 +7,14 @@ use native.Mathlib.Omega.{arith}
 use lib.ListN.{length, take, drop, length-append, length-map}
 use lib.Seq.{take_at, drop_at}
 use Rattle.sheet.specs.Content.{Point}
-use Rattle.frame.specs.Parts.{rings_from, ends_from, Packed}
+use Rattle.frame.specs.Parts.{rings_from, rings_in, ends_from, Packed}
+use Rattle.frame.specs.declared.ring_list.Rings.{Rings}
 
 -- ---- parted at their ends
+
+pub rings_in_is : (rings : Rings) → rings_in rings ≡ rings_from 0 rings.ends.now rings.points.now
+unfolding rings_in
+rings_in_is rings = refl
 
 pub rings_of_lem : (rings : List (List Point)) (before : List Point) (from : ℕ) → length before ≡ from → rings_from from (ends_from from rings) (before ++ flatten rings) ≡ rings
 unfolding rings_from ends_from flatten

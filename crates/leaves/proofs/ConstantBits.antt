@@ -1,7 +1,7 @@
 -- Each decimal constant has the bits of the nearest f64, which are those that the code's literal shows; 1/0 is
 -- infinity, and -1/0 the negative one. By computation.
-use Rattle.std.proofs.Common.{◌≡◌, ◌^◌, true, false, T, refl}
-use lib.Ieee.{binary64, inf, neg, div, of_bits, fits, lt}
+use Rattle.std.proofs.Common.{◌≡◌, ◌^◌, false, T, refl}
+use lib.Ieee.{binary64, inf, div, of_bits, fits, lt}
 use lib.Ieee.Fits.{round-fits}
 use Rattle.leaves.specs.Constants.{plus_zero, one, decimal, deviation_limit, scale_limit, join_limit, clearance_limit, physical_limit, micro, end_limit, parallel, degenerate_limit}
 
@@ -45,10 +45,6 @@ degenerate_limit_bits = refl
 pub infinity_bits : div binary64 one plus_zero ≡ inf false
 unfolding div of_bits
 infinity_bits = refl
-
-pub minus_infinity_bits : div binary64 (neg one) plus_zero ≡ inf true
-unfolding div neg of_bits
-minus_infinity_bits = refl
 
 -- ---- the limit of refusal 14: a value of the format, and 0 is not above it
 

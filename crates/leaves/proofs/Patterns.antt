@@ -1,33 +1,11 @@
--- Laws about NaNs: a pattern is a NaN's where it stands for `nan`, and a value that equals itself is no NaN. What is
--- rounded is none, nor is a number plus a finite one, nor one over a number.
-use Rattle.std.proofs.Common.{◌≡◌, ℕ, zero, suc, ◌+◌, ◌-◌, ◌*◌, ◌/◌, ◌^◌, Bool, true, false, cond, not, ◌&&◌, T, eqb, ltb, sym, refl, ◌∙◌, subst, true≢false}
+-- Laws about NaNs: what is rounded is none, nor is a number plus a finite one, nor one over a number.
+use Rattle.std.proofs.Common.{ℕ, zero, suc, ◌+◌, ◌-◌, ◌*◌, ◌/◌, ◌^◌, Bool, true, false, cond, not, ◌&&◌, T, eqb, ltb, sym, subst}
 use mathlib.Core.Bool.{beq}
-use lib.Ieee.{Float, nan, inf, fin, Format, prec, low, up, down, binary64, is_nan, nan_bits, ne, of_bits, size, unlike, odd, units, round, sum, add, div}
-use lib.Ieee.Bits.{nan_bits_is}
-use lib.Ieee.Compare.{nan_differs}
+use lib.Ieee.{Float, nan, inf, fin, Format, prec, low, up, down, binary64, is_nan, of_bits, size, unlike, odd, units, round, sum, add, div}
 use lib.Ieee.Fits.{round_is}
 use lib.Ieee.Nearest.{closest}
 use lib.Ieee.Scale.{finite, overflow}
 use Rattle.leaves.specs.Constants.{one}
-
-is_nan_lem : (x : Float) → is_nan x ≡ true → x ≡ nan
-unfolding is_nan
-is_nan_lem nan e = refl
-is_nan_lem (inf s) e = absurd (true≢false (sym e))
-is_nan_lem (fin s m k) e = absurd (true≢false (sym e))
-
-pub nan_pattern : (bits : ℕ) → nan_bits binary64 bits ≡ true → of_bits binary64 bits ≡ nan
-nan_pattern bits e = is_nan_lem (of_bits binary64 bits) (sym (nan_bits_is binary64 bits) ∙ e)
-
-pub pattern_of_nan : (bits : ℕ) → of_bits binary64 bits ≡ nan → nan_bits binary64 bits ≡ true
-unfolding is_nan
-pattern_of_nan bits e = rw (nan_bits_is, e)
-
-pub equals_itself : (x : Float) → ne x x ≡ false → T (not (is_nan x))
-unfolding is_nan
-equals_itself nan e = absurd (true≢false (sym nan_differs ∙ e))
-equals_itself (inf s) e = tt
-equals_itself (fin s m k) e = tt
 
 -- ---- operations that give no NaN
 

@@ -25,6 +25,7 @@ use Prim.Native.Nat.{ℕ, ◌+◌, ◌-◌, ◌*◌}
 use Rattle.answers.specs.Answers.{paper, values_numbers}
 use Rattle.answers.proofs.FirstCheck.{first_here, first_none, first_passed, first_refused}
 use Rattle.answers.proofs.Papers.{paper_ok, paper_err, not_zero}
+use Rattle.answers.proofs.Calls.{number_phase, number_images, number_too_close}
 use Rattle.sheet.specs.Content.{Point, point}
 use Rattle.sheet.specs.Layout.{kind, numbers, sheet_of}
 use Rattle.sheet.proofs.Planes.{sheet_kind, sheet_plane}
@@ -53,8 +54,8 @@ Picked r n = paper r ≡ n
 
 module _ (close : Bool) (p : Place) (c : Candidate) where
   pub closing_near : close ≡ true → Picked (Err TooClose) (closing close p c)
-  unfolding closing number_of
-  closing_near e = paper_err values_numbers TooClose ∙ ap (λ (b : Bool). cond b (refused 15) (answered_at p c)) (sym e)
+  unfolding closing
+  closing_near e = paper_err values_numbers TooClose ∙ ap refused number_too_close ∙ ap (λ (b : Bool). cond b (refused 15) (answered_at p c)) (sym e)
 
   pub closing_clear : close ≡ false → Picked (Ok (record { x = p.x; y = p.y; z = p.z; clearance = c.clearance; count = c.count })) (closing close p c)
   unfolding closing answered_at
@@ -127,9 +128,8 @@ module _ (s : List ℕ) (phase : ℕ) (images : List Float) where
   image_unread r e = image_by r (ap first image_rows_lem ∙ first_refused (phase_checks s phase) behind (λ z. not_zero r (e ∙ z)) ∙ sym e)
 
   pub image_wrong : first (phase_checks s phase) ≡ 0 → images_wrong (sheet_of s) images ≡ true → Picked (Err Images) (image_pick_of s phase images)
-  unfolding number_of
   image_wrong passes e =
-      image_by Images (ap first image_rows_lem ∙ first_passed (phase_checks s phase) behind (phase_numbered s phase) passes ∙ first_here (check 10 (images_wrong (sheet_of s) images)) _ e)
+      image_by Images (ap first image_rows_lem ∙ first_passed (phase_checks s phase) behind (phase_numbered s phase) passes ∙ first_here (check 10 (images_wrong (sheet_of s) images)) _ e ∙ sym number_images)
 
 module _ {s : List ℕ} {phase : ℕ} {images : List Float} (i : ImagePassed s phase images) where
   pub image_reads : first (layout_checks s ++ content_checks (sheet_of s)) ≡ 0
@@ -187,8 +187,7 @@ module _ (s : List ℕ) where
 
   module _ (reads : first (layout_checks s ++ content_checks (sheet_of s)) ≡ 0) where
     pub plane_wrong_kind : (kind s ≡ 0 → ⊥) → Picked (Err Phase) (plane_pick_of s)
-    unfolding number_of
-    plane_wrong_kind h = picked_on (Err Phase) (pick_wrong s (plane_rows (sheet_of s)) 0 at_chosen near_chosen reads Phase (first_here (check 8 (no_plane (sheet_of s))) [] (no_plane_lem false (ne_eqb (kind s) 0 h))))
+    plane_wrong_kind h = picked_on (Err Phase) (pick_wrong s (plane_rows (sheet_of s)) 0 at_chosen near_chosen reads Phase (first_here (check 8 (no_plane (sheet_of s))) [] (no_plane_lem false (ne_eqb (kind s) 0 h)) ∙ sym number_phase))
 
     pub planar : kind s ≡ 0 → PlanePassed s
     planar e = record { reads = reads; plane = no_plane_lem true (eq-eqb (kind s) 0 e) }

@@ -3,22 +3,22 @@
 use mathlib.Core.Path.{◌≡◌, refl}
 use mathlib.Core.Bool.{true, false}
 use mathlib.Core.List.{List, [], ◌∷◌, foldl, map}
-use lib.Ieee.{Float, inf}
+use lib.Ieee.{Float, inf, binary64, of_bits}
 use Rattle.leaves.specs.Bounds.{smaller_of, larger_of}
 use Rattle.sheet.specs.Content.{Point, point}
 use Rattle.std.specs.List.{fold}
 use Rattle.points.specs.declared.bounds.Box.{Box}
 use Rattle.points.specs.Bounds.{axis_of, least, greatest, box_of, with_point}
 
--- ---- one axis
+-- ---- one axis, from the patterns of the infinities
 
-pub least_fold : (xs : List Float) → foldl smaller_of (inf false) xs ≡ least xs
-unfolding least
-least_fold xs = refl
+pub least_is : (xs : List Float) → least xs ≡ foldl smaller_of (of_bits binary64 0x7FF0000000000000) xs
+unfolding least of_bits
+least_is xs = refl
 
-pub greatest_fold : (xs : List Float) → foldl larger_of (inf true) xs ≡ greatest xs
-unfolding greatest
-greatest_fold xs = refl
+pub greatest_is : (xs : List Float) → greatest xs ≡ foldl larger_of (of_bits binary64 0xFFF0000000000000) xs
+unfolding greatest of_bits
+greatest_is xs = refl
 
 -- ---- the box
 

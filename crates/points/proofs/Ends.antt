@@ -30,3 +30,14 @@ around_some [] d last h = absurd (none-some last (sym h))
 around_some (p ∷ ps) d last h =
     let n : suc (length ps) - 1 ≡ length ps = omega arith in
     rw (last_at p ps last, ← n, get_or_from_slice_get (p ∷ ps) (length (p ∷ ps) - 1) last last (sym h))
+
+-- the last of an item and those after it
+last_some : {A : Type 0} (p : A) (ps : List A) → last_or (Some p) ps ≡ Some (last_of p ps)
+unfolding last_of
+last_some p [] = refl
+last_some p (q ∷ ps) = last_some q ps
+
+pub last_is : {A : Type 0} (p : A) (ps : List A) → unwrap_or (last_or None ps) p ≡ last_of p ps
+unfolding last_of
+last_is p [] = refl
+last_is p (q ∷ ps) = rw (last_some q ps)

@@ -1,8 +1,7 @@
 -- Laws about the definitions of `points`, by subject. What two functions' proofs need, and what the layers above cite,
 -- stands here.
 
--- points in a list of numbers, read and written, and a part of a list written anew
-pub mod Pairs
+-- points in a list of numbers, and a part of a list written anew
 pub mod Flat
 pub mod InPlace
 pub mod Anew
@@ -16,9 +15,8 @@ pub mod Axes
 pub mod Ends
 pub mod Seams
 pub mod Opening
--- a ring's segments, one after the other, and a ring in a list of numbers, point by point
+-- a ring's segments, one after the other
 pub mod RingFolds
-pub mod Walk
 -- whole turns, and the grid's columns, by the order
 pub mod WholeTurns
 pub mod ColumnOrder

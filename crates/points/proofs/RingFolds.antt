@@ -1,9 +1,8 @@
--- A ring's segments, whatever its points are: how many there are, a fold over them, one at a time, and the last point.
+-- A ring's segments, whatever its points are: how many there are, and a fold over them, one at a time.
 use mathlib.Core.Path.{◌≡◌, refl, sym, ap}
 use mathlib.Core.List.{List, [], ◌∷◌, foldl}
 use Prim.Native.Nat.{suc}
 use lib.ListN.{length}
-use Rattle.points.specs.Bounds.{last_of}
 use Rattle.points.specs.Segments.{Between, between, segments_from, segments}
 
 -- ---- how many there are
@@ -42,13 +41,3 @@ module _ {A S : Type 0} (step : S → Between A → S) where
     pub rest_end : {rest : List A} (s : S) (a : A) → rest ≡ [] → fold_rest s a rest ≡ step s (between a first)
     unfolding segments_from
     rest_end s a e = ap (fold_rest s a) e
-
--- ---- the last of them, a step at a time
-
-pub last_none : {A : Type 0} {ps : List A} (p : A) → ps ≡ [] → last_of p ps ≡ p
-unfolding last_of
-last_none p e = ap (last_of p) e
-
-pub last_next : {A : Type 0} {ps qs : List A} {q : A} (p : A) → ps ≡ q ∷ qs → last_of p ps ≡ last_of q qs
-unfolding last_of
-last_next p e = ap (last_of p) e

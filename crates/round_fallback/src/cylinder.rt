@@ -173,7 +173,7 @@ fn middle_height(heights: &[f64]) -> f64
 }
 
 // The answer of the heights and the corner angles; 23: the middle is unclear.
-#[tactic(auto, using(leaves::proofs::ConstantBits::micro_bits), unfolding(crate::specs::Cylinder::middle_among, crate::specs::Cylinder::unclear, crate::specs::Cylinder::middle_angle, answers::specs::Outcome::settled, answers::specs::Outcome::first, answers::specs::Outcome::number_of, answers::specs::Answers::paper_by))]
+#[tactic(auto, using(leaves::proofs::ConstantBits::micro_bits, answers::proofs::Calls::calls), unfolding(crate::specs::Cylinder::middle_among, crate::specs::Cylinder::unclear, crate::specs::Cylinder::middle_angle))]
 fn middle(heights: &[f64], angles: &[f64]) -> Result<Middle, Refusal>
     ensures { middle_paper result ≡ middle_among heights.now angles.now }
 {
@@ -195,7 +195,7 @@ fn middle(heights: &[f64], angles: &[f64]) -> Result<Middle, Refusal>
 }
 
 // The middle angle and height of a round face, from the heights and angles of its corners.
-#[tactic(auto, using(crate::proofs::Sorting::turned_numeric, crate::proofs::Refusals::few_angles), unfolding(crate::specs::Cylinder::cylinder_point_of, answers::specs::Outcome::settled, answers::specs::Outcome::first, answers::specs::Outcome::number_of, answers::specs::Answers::paper_by))]
+#[tactic(auto, using(crate::proofs::Sorting::turned_numeric, crate::proofs::Refusals::few_angles, answers::proofs::Calls::calls), unfolding(crate::specs::Cylinder::cylinder_point_of))]
 pub fn cylinder_point(heights: &[f64], angles: &[f64]) -> Result<Middle, Refusal>
     ensures { middle_paper result ≡ cylinder_point_of heights.now angles.now }
 {

@@ -28,11 +28,6 @@ ring_points ring = flat_map (λ (c : Coedge). c.points) ring
 abbrev pub point : Float → Float → Point
 point u v = record { u = u; v = v }
 
-unfoldable pub pairs : List Float → List Point
-pairs [] = []
-pairs (u ∷ []) = []
-pairs (u ∷ v ∷ rest) = point u v ∷ pairs rest
-
 unfoldable pub flat : List Point → List Float
 flat [] = []
 flat (p ∷ ps) = p.u ∷ p.v ∷ flat ps

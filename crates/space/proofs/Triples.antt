@@ -41,3 +41,12 @@ pub triples_end : (xs : List Float) (k : ℕ) → length xs / 3 ≤ k → triple
 triples_end xs k h = short (drop (3 * k) xs) (simp length-drop (omega arith))
 
 -- ---- written
+
+-- ---- how many
+
+pub length_triples : (xs : List Float) → length (triples xs) ≡ length xs / 3
+unfolding triples
+length_triples [] = refl
+length_triples (x ∷ []) = refl
+length_triples (x ∷ y ∷ []) = refl
+length_triples (x ∷ y ∷ z ∷ xs) = let e = length_triples xs in omega (arith, e)

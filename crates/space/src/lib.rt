@@ -5,5 +5,5 @@
 mod places;
 mod vectors;
 
-pub use places::place_at;
+pub use places::{Places, place_at};
 pub use vectors::{ORIGIN, Place, cross, distance, dot, length, minus, unit};

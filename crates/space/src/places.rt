@@ -1,7 +1,8 @@
 // Places in a list of numbers: x, y, z of the first, x, y, z of the next, and so on.
 ghost use Rattle.std.specs.Prelude.{◌≡◌, get_or};
 ghost use Rattle.std.specs.Float.{nan};
-ghost use Rattle.space.specs.Places.{place_at};
+ghost use Rattle.std.specs.Iterator.{YieldsFirst, item_count};
+ghost use Rattle.space.specs.Places.{place_at, places_left};
 
 use crate::vectors::Place;
 
@@ -28,5 +29,32 @@ pub fn place_at(list: &[f64], at: usize) -> Place
             y: 0.0 / 0.0,
             z: 0.0 / 0.0,
         }
+    }
+}
+
+// The places that are left in a list, three numbers each; one or two last numbers are no place.
+#[derive(Clone, Copy)]
+pub struct Places<'a> {
+    pub list: &'a [f64],
+}
+
+impl<'a> Iterator for Places<'a> {
+    type Item = Place;
+
+    ghost next_gives = { YieldsFirst places_left };
+
+    ghost remaining = { item_count places_left };
+
+    #[tactic(auto, unfolding(crate::specs::Places::triples))]
+    fn next(&mut self) -> Option<Place> {
+        let [x, y, z, rest @ ..] = self.list else {
+            return None;
+        };
+        self.list = rest;
+        Some(Place {
+            x: *x,
+            y: *y,
+            z: *z,
+        })
     }
 }

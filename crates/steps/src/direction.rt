@@ -30,7 +30,7 @@ fn direct(front: Place, back: Place, start: Place, end: Place) -> Direction
 
 // Whether to reverse a coedge's points, and whether to keep them. `points` holds twelve numbers: the first
 // image, the last image, the start, the end.
-#[tactic(auto, unfolding(crate::specs::Direction::direction_of, answers::specs::Outcome::settled, answers::specs::Outcome::first, answers::specs::Outcome::number_of, answers::specs::Answers::paper_by,))]
+#[tactic(auto, using(answers::proofs::Calls::calls), unfolding(crate::specs::Direction::direction_of))]
 pub fn edge_direction(points: &[f64]) -> Result<Direction, Refusal>
     ensures { direction_paper result ≡ direction_of points.now }
 {

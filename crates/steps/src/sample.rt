@@ -44,7 +44,7 @@ fn sampled(a: f64, b: f64, n: u32) -> f64
 }
 
 // a at n = 0, b at n = 16, and the parameter between them for an n between.
-#[tactic(auto, using(crate::proofs::Sampling::sample_right), unfolding(crate::specs::Sample::sample_parameter_of, answers::specs::Outcome::settled, answers::specs::Outcome::first, answers::specs::Answers::paper_by, answers::specs::Outcome::number_of))]
+#[tactic(auto, using(crate::proofs::Sampling::sample_right, answers::proofs::Calls::calls), unfolding(crate::specs::Sample::sample_parameter_of))]
 pub fn sample_parameter(a: f64, b: f64, n: u32) -> Result<Parameter, Refusal>
     ensures { parameter_paper result ≡ sample_parameter_of a b n }
 {

@@ -39,7 +39,7 @@ fn any_not_finite(p: Place) -> bool
 }
 
 // The point where the transform puts it: three rows of four numbers, the last of each the translation.
-#[tactic(auto, using(answers::proofs::Present::present), unfolding(crate::specs::Placed::placed_of, answers::specs::Outcome::settled, answers::specs::Outcome::first, answers::specs::Answers::paper_by, answers::specs::Outcome::number_of))]
+#[tactic(auto, using(answers::proofs::Present::present, answers::proofs::Calls::calls), unfolding(crate::specs::Placed::placed_of))]
 pub fn placed(transform: &[f64], point: &[f64]) -> Result<Place, Refusal>
     ensures { position_paper result ≡ placed_of transform.now point.now }
 {

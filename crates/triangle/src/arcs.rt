@@ -132,7 +132,7 @@ fn on_sphere(sphere: Sphere, p: Place) -> Place
 }
 
 // 18, 19 and the answer, of the three sides' directions.
-#[tactic(auto, unfolding(crate::specs::Triangle::triangle_among, crate::specs::Triangle::inner_of, crate::specs::Triangle::on_sphere, answers::specs::Outcome::settled, answers::specs::Outcome::first, answers::specs::Answers::paper_by, answers::specs::Outcome::number_of))]
+#[tactic(auto, using(answers::proofs::Calls::calls), unfolding(crate::specs::Triangle::triangle_among, crate::specs::Triangle::inner_of, crate::specs::Triangle::on_sphere))]
 fn among(sphere: Sphere, sense: u32, arcs: [Arc; 3]) -> Result<Place, Refusal>
     ensures { position_paper result ≡ triangle_among sphere sense arcs }
 {
@@ -147,7 +147,7 @@ fn among(sphere: Sphere, sense: u32, arcs: [Arc; 3]) -> Result<Place, Refusal>
 }
 
 // The middle of a triangle of great-circle arcs: its sphere, the sense, and three sides.
-#[tactic(auto, unfolding(crate::specs::Triangle::triangle_of, answers::specs::Outcome::settled, answers::specs::Outcome::first, answers::specs::Answers::paper_by, answers::specs::Outcome::number_of))]
+#[tactic(auto, using(answers::proofs::Calls::calls), unfolding(crate::specs::Triangle::triangle_of))]
 pub fn spherical_triangle(sphere: Sphere, sense: u32, sides: [Side; 3]) -> Result<Place, Refusal>
     ensures { position_paper result ≡ triangle_of sphere sense sides }
 {

@@ -59,7 +59,7 @@ fn side_at(sides: &[f64], at: usize) -> Result<Side, Refusal>
 
 // The triangle: the centre's three numbers, and nineteen of each side, its two ends, the reversed flag,
 // the circle's centre and radius, the range's two ends and the two evaluated ends.
-#[tactic(auto, unfolding(crate::specs::Lists::triangle_lists_of, crate::specs::Lists::lists_wrong, answers::specs::Answers::paper_by, answers::specs::Outcome::number_of))]
+#[tactic(auto, using(answers::proofs::Calls::calls), unfolding(crate::specs::Lists::triangle_lists_of, crate::specs::Lists::lists_wrong))]
 pub fn spherical_triangle_of(
     centre: &[f64],
     radius: f64,

@@ -21,24 +21,6 @@ use Rattle.vertex_fallback.specs.Vertices.{corners_of, centre_of, flattened, ser
 
 -- ---- places
 
-pub length_triples : (xs : List Float) → length (triples xs) ≡ length xs / 3
-unfolding triples
-length_triples [] = refl
-length_triples (x ∷ []) = refl
-length_triples (x ∷ y ∷ []) = refl
-length_triples (x ∷ y ∷ z ∷ xs) = let e = length_triples xs in omega (arith, e)
-
--- the last of a place and those after it
-last_some : (p : Place) (ps : List Place) → last_or (Some p) ps ≡ Some (last_of p ps)
-unfolding last_of
-last_some p [] = refl
-last_some p (q ∷ ps) = last_some q ps
-
-pub last_is : (p : Place) (ps : List Place) → unwrap_or (last_or None ps) p ≡ last_of p ps
-unfolding last_of
-last_is p [] = refl
-last_is p (q ∷ ps) = rw (last_some q ps)
-
 -- of the places in the list k are written on the axes, and these are left
 module _ (xs : List Float) (left : List Place) (f : Place → Point) {before now : List Point} {k : ℕ} (w : Written before now k (map f left) (map f (triples xs))) where
   pub left_count : k + length left ≡ length xs / 3

@@ -1,13 +1,13 @@
 // The corners of a planar face, whose places stand in a list of numbers, each corner with its two neighbours.
 ghost use Rattle.std.specs.Prelude.{◌≡◌};
 ghost use Rattle.std.specs.Iterator.{YieldsFirst, item_count};
-ghost use Rattle.space.specs.Places.{triples};
+ghost use Rattle.space.specs.Places.{triples, places_left};
 ghost use Rattle.points.specs.Bounds.{last_of};
 ghost use Rattle.vertex_fallback.specs.Vertices.{third as third_of, centre_of, degenerate, corners_of};
-ghost use Rattle.vertex_fallback.specs.Left.{places_left, corners_left};
+ghost use Rattle.vertex_fallback.specs.Left.{corners_left};
 
 use leaves::constants::DEGENERATE_LIMIT;
-use space::Place;
+use space::{Place, Places};
 
 // A corner, the one before it and the one after it.
 #[derive(Clone, Copy, Debug, PartialEq)]
@@ -52,33 +52,6 @@ impl Corner {
             space::minus(self.after, self.before),
         );
         space::dot(normal, normal) < DEGENERATE_LIMIT
-    }
-}
-
-// The places that are left in a list, three numbers each; one or two last numbers are no place.
-#[derive(Clone, Copy)]
-pub(crate) struct Places<'a> {
-    pub(crate) list: &'a [f64],
-}
-
-impl<'a> Iterator for Places<'a> {
-    type Item = Place;
-
-    ghost next_gives = { YieldsFirst places_left };
-
-    ghost remaining = { item_count places_left };
-
-    #[tactic(auto, unfolding(space::specs::Places::triples))]
-    fn next(&mut self) -> Option<Place> {
-        let [x, y, z, rest @ ..] = self.list else {
-            return None;
-        };
-        self.list = rest;
-        Some(Place {
-            x: *x,
-            y: *y,
-            z: *z,
-        })
     }
 }
 

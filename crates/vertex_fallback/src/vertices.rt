@@ -6,10 +6,10 @@ ghost use Rattle.space.specs.Places.{triples};
 ghost use Rattle.answers.specs.Answers.{position_paper};
 ghost use Rattle.vertex_fallback.specs.Vertices.{vertices_wrong, corners_wrong, flattened, serves_of, first_serving, corners_of, point_among, point_on_of};
 
-use crate::corners::{Corner, Corners, Places};
+use crate::corners::{Corner, Corners};
 use answers::{ARGUMENT_LIMIT, Refusal, any_number_beyond, is_missing};
 use sheet::Point;
-use space::Place;
+use space::{Place, Places};
 
 // As document 01 limits them.
 const MOST_CORNERS: usize = 128;
@@ -81,7 +81,7 @@ impl Axes {
     }
 
     // The answer, over a list that has room for just the corners on the axes; 21: none serves.
-    #[tactic(auto, using(crate::proofs::Serving::found, crate::proofs::Serving::none_found), unfolding(crate::specs::Vertices::point_among, answers::specs::Answers::paper_by, answers::specs::Outcome::number_of))]
+    #[tactic(auto, using(crate::proofs::Serving::found, crate::proofs::Serving::none_found, answers::proofs::Calls::calls), unfolding(crate::specs::Vertices::point_among))]
     fn point_among(self, corners: &[f64], ring: &mut [Point]) -> Result<Place, Refusal>
         requires { length ring.old ≡ length corners.now / 3 }
         ensures { position_paper result ≡ point_among self.u self.v (triples corners.now) }
@@ -95,7 +95,7 @@ impl Axes {
 }
 
 // A point inside a planar face, from its corners.
-#[tactic(auto, unfolding(crate::specs::Vertices::point_on_of, answers::specs::Outcome::settled, answers::specs::Outcome::first, answers::specs::Outcome::number_of, answers::specs::Answers::paper_by))]
+#[tactic(auto, using(answers::proofs::Calls::calls), unfolding(crate::specs::Vertices::point_on_of))]
 pub fn point_on(u_axis: &[f64], normal: &[f64], corners: &[f64]) -> Result<Place, Refusal>
     ensures { position_paper result ≡ point_on_of u_axis.now normal.now corners.now }
 {

@@ -3,33 +3,28 @@
 use mathlib.Core.Path.{sym, ◌∙◌}
 use native.Mathlib.Omega.{arith}
 use Rattle.std.proofs.lemmas.Result.{err_from_is_err_and}
-use Rattle.answers.specs.Outcome.{status_of}
+use Rattle.answers.proofs.Papers.{status_ok, status_err}
 use Rattle.frame.proofs.SheetFrame.{points_most}
 use Rattle.chart.proofs.Calling.{reads_of}
 use Rattle.picker.proofs.Calling.{image_unread, image_wrong}
 use Rattle.picker.proofs.call.image_pick.Goals as goal
 
 pub returns-in_err-check : goal.returns-in_err-check
-unfolding status_of
 returns-in_err-check c =
     let p = err_from_is_err_and c.from_residual.result c.from_residual.ensures.1 in
-    rw (p.1, p.2) (image_unread c.args.s.now c.args.phase c.args.images.now _ c.in_err-check.ensures)
+    rw (p.1, p.2) (image_unread c.args.s.now c.args.phase c.args.images.now _ (sym (status_err _ _) ∙ c.in_err-check.ensures))
 
 pub images_wrong-requires : goal.images_wrong-requires
-unfolding status_of
-images_wrong-requires c = points_most c.args.s.now (reads_of c.args.s.now c.args.phase (sym c.in_ok-check.ensures))
+images_wrong-requires c = points_most c.args.s.now (reads_of c.args.s.now c.args.phase (sym c.in_ok-check.ensures ∙ status_ok _))
 
 pub returns-then-images_wrong : goal.returns-then-images_wrong
-unfolding status_of
-returns-then-images_wrong c = image_wrong c.args.s.now c.args.phase c.args.images.now (sym c.in_ok-check.ensures) (sym c.images_wrong.ensures ∙ c.if-images_wrong.true)
+returns-then-images_wrong c = image_wrong c.args.s.now c.args.phase c.args.images.now (sym c.in_ok-check.ensures ∙ status_ok _) (sym c.images_wrong.ensures ∙ c.if-images_wrong.true)
 
 pub image_within-requires : goal.image_within-requires
-unfolding status_of
 image_within-requires c =
-    (record { passes = sym c.in_ok-check.ensures; images_right = sym c.images_wrong.ensures ∙ c.if-images_wrong.false }, c.point_count-n.ensures, c.byte_at-count.ensures, c.if-n-le-SMALL_POINTS.true, omega arith)
+    (record { passes = sym c.in_ok-check.ensures ∙ status_ok _; images_right = sym c.images_wrong.ensures ∙ c.if-images_wrong.false }, c.point_count-n.ensures, c.byte_at-count.ensures, c.if-n-le-SMALL_POINTS.true, omega arith)
 
 pub image_within-requires-else-n-le-SMALL_POINTS : goal.image_within-requires-else-n-le-SMALL_POINTS
-unfolding status_of
 image_within-requires-else-n-le-SMALL_POINTS c =
-    let most = points_most c.args.s.now (reads_of c.args.s.now c.args.phase (sym c.in_ok-check.ensures)) in
-    (record { passes = sym c.in_ok-check.ensures; images_right = sym c.images_wrong.ensures ∙ c.if-images_wrong.false }, c.point_count-n.ensures, c.byte_at-count.ensures, omega (arith, c.point_count-n.ensures, most), omega arith)
+    let most = points_most c.args.s.now (reads_of c.args.s.now c.args.phase (sym c.in_ok-check.ensures ∙ status_ok _)) in
+    (record { passes = sym c.in_ok-check.ensures ∙ status_ok _; images_right = sym c.images_wrong.ensures ∙ c.if-images_wrong.false }, c.point_count-n.ensures, c.byte_at-count.ensures, omega (arith, c.point_count-n.ensures, most), omega arith)

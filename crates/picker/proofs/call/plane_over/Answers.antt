@@ -6,11 +6,11 @@ use lib.ListN.{length}
 use Rattle.std.proofs.lemmas.Result.{err_from_is_err_and}
 use Rattle.sheet.specs.Layout.{sheet_of}
 use Rattle.frame.specs.Framing.{moved_rings}
-use Rattle.frame.specs.Parts.{rings_from, rings_in}
+use Rattle.frame.specs.Parts.{rings_from}
 use Rattle.frame.specs.Seam.{fitting}
 use Rattle.frame.proofs.Counting.{ring_number}
 use Rattle.frame.proofs.LaidOut.{laid_points_lem, laid_ends_lem}
-use Rattle.frame.proofs.Parting.{rings_are}
+use Rattle.frame.proofs.Parting.{rings_are, rings_in_is}
 use Rattle.chart.specs.declared.grid_point.Found.{Found}
 use Rattle.chart.proofs.Calling.{fits_of}
 use Rattle.chart.proofs.Finding.{told_refused, told_chosen}
@@ -25,11 +25,10 @@ returns-in_err-found c =
     rw (p.1, p.2) (plane_refused c.requires.0 _ (told_refused _ (sheet_of c.args.s.now) 0 _ fit c.find.ensures.0 c.in_err-found.was))
 
 pub returns : goal.returns
-unfolding rings_in
 returns c =
     let fit : fitting (sheet_of c.args.s.now) (length c.args.moved.now) (length c.args.ends.now) ≡ true = let s = c.args.s.now in
     fits_of s (length c.args.moved.now) (length c.args.ends.now) c.requires.0.reads c.requires.1 (c.requires.2 ∙ sym (ring_number s)) in
-    let rings_back : rings_from 0 c.find.new.ends c.find.new.points ≡ moved_rings (sheet_of c.args.s.now) 0 = let z = sheet_of c.args.s.now in
-    ap₂ (rings_from 0) (c.find.ensures.2 ∙ laid_ends_lem z 0 c.args.ends.now fit) (c.find.ensures.1 ∙ laid_points_lem z 0 c.args.moved.now fit) ∙ rings_are (moved_rings z 0) in
+    let rings_back = let z = sheet_of c.args.s.now in
+    rings_in_is _ ∙ ap₂ (rings_from 0) (c.find.ensures.2 ∙ laid_ends_lem z 0 c.args.ends.now fit) (c.find.ensures.1 ∙ laid_points_lem z 0 c.args.moved.now fit) ∙ rings_are (moved_rings z 0) in
     let t = told_chosen _ (sheet_of c.args.s.now) 0 _ fit c.find.ensures.0 c.in_ok-found.was in
     plane_answered c.requires.0 c.answer_at.result t.0 (ap (λ (x : Found). x.frame) t.1) (ap (λ (x : Found). x.best) t.1) rings_back c.point.ensures.0 c.point.ensures.1 c.place_on-p.ensures c.is_plane_close.ensures c.answer_at.ensures

@@ -3,28 +3,24 @@
 use mathlib.Core.Path.{sym, ◌∙◌}
 use native.Mathlib.Omega.{arith}
 use Rattle.std.proofs.lemmas.Result.{err_from_is_err_and}
-use Rattle.answers.specs.Outcome.{status_of}
+use Rattle.answers.proofs.Papers.{status_ok, status_err}
 use Rattle.frame.proofs.SheetFrame.{points_most}
 use Rattle.picker.proofs.Calling.{plane_unread, plane_wrong_kind, planar}
 use Rattle.picker.proofs.call.plane_pick.Goals as goal
 
 pub returns-in_err-check : goal.returns-in_err-check
-unfolding status_of
 returns-in_err-check c =
     let p = err_from_is_err_and c.from_residual.result c.from_residual.ensures.1 in
-    rw (p.1, p.2) (plane_unread c.args.s.now _ c.in_err-check.ensures)
+    rw (p.1, p.2) (plane_unread c.args.s.now _ (sym (status_err _ _) ∙ c.in_err-check.ensures))
 
 pub returns-then-byte_at-ne0 : goal.returns-then-byte_at-ne0
-unfolding status_of
-returns-then-byte_at-ne0 c = plane_wrong_kind c.args.s.now (sym c.in_ok-check.ensures) (λ e. c.if-byte_at-ne0.true (c.byte_at.ensures ∙ e))
+returns-then-byte_at-ne0 c = plane_wrong_kind c.args.s.now (sym c.in_ok-check.ensures ∙ status_ok _) (λ e. c.if-byte_at-ne0.true (c.byte_at.ensures ∙ e))
 
 pub plane_within-requires : goal.plane_within-requires
-unfolding status_of
 plane_within-requires c =
-    (planar c.args.s.now (sym c.in_ok-check.ensures) (sym c.byte_at.ensures ∙ c.if-byte_at-ne0.false), c.point_count-n.ensures, c.byte_at-count.ensures, c.if-n-le-SMALL_POINTS.true, omega arith)
+    (planar c.args.s.now (sym c.in_ok-check.ensures ∙ status_ok _) (sym c.byte_at.ensures ∙ c.if-byte_at-ne0.false), c.point_count-n.ensures, c.byte_at-count.ensures, c.if-n-le-SMALL_POINTS.true, omega arith)
 
 pub plane_within-requires-else-n-le-SMALL_POINTS : goal.plane_within-requires-else-n-le-SMALL_POINTS
-unfolding status_of
 plane_within-requires-else-n-le-SMALL_POINTS c =
-    let reads = sym c.in_ok-check.ensures in
+    let reads = sym c.in_ok-check.ensures ∙ status_ok _ in
     (planar c.args.s.now reads (sym c.byte_at.ensures ∙ c.if-byte_at-ne0.false), c.point_count-n.ensures, c.byte_at-count.ensures, omega (arith, c.point_count-n.ensures, points_most c.args.s.now reads), omega arith)

@@ -2,7 +2,7 @@
 -- first are written, and those that the iterator has yet to give are left. The list has room for just all of them.
 use Rattle.std.proofs.Common.{arith, sym, ap, ◌∙◌, ◌∷◌, map, length}
 use Rattle.points.proofs.InPlace.{none_written, item_written, all_filled}
-use Rattle.vertex_fallback.specs.Left.{places_left}
+use Rattle.space.specs.Places.{places_left}
 use Rattle.vertex_fallback.specs.Vertices.{flattened}
 use Rattle.vertex_fallback.proofs.Serving.{left_count, none_left}
 use Rattle.vertex_fallback.proofs.vertices.Axes.flatten.Goals as goal

@@ -1,7 +1,7 @@
 use mathlib.Core.List.{map}
 use Rattle.space.specs.Places.{triples}
 use Rattle.points.proofs.InPlace.{Written}
-use Rattle.vertex_fallback.specs.Left.{places_left}
+use Rattle.space.specs.Places.{places_left}
 use Rattle.vertex_fallback.specs.Vertices.{flattened}
 use Rattle.vertex_fallback.proofs.vertices.Axes.flatten.Given as goal
 
