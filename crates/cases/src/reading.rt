@@ -1,5 +1,5 @@
-// What a program reads of a file, by whole buffers.
-ghost use Rattle.std.specs.Prelude.{◌≡◌, ◌<◌, List, ℕ, Ok, IfOk, OnOk, Err, IsErrOf, length, take};
+// What a program reads of a file, by whole buffers, and what it says of a file that cannot be read.
+ghost use Rattle.std.specs.Prelude.{◌≡◌, ◌<◌, List, ℕ, Ok, IfOk, OnOk, Err, IsErrOf, is_ok, length, take};
 ghost use Rattle.std.specs.Io.{ReadsAtMost};
 ghost use Rattle.std.specs.Io.KnownBytes.{Consumes, IsAtEnd};
 ghost use Rattle.cases.specs.Record.{head_of};
@@ -46,4 +46,14 @@ pub fn read_head<R: Read>(file: &mut R) -> Result<Option<Head>, RecordError>
     let mut bytes = [0u8; HEAD_SIZE];
     let n = read_full(file, &mut bytes).map_err(RecordError::Io)?;
     head_of(&bytes[..n])
+}
+
+// Whether a file was run; else it says on standard error what failed.
+pub fn is_run(rt: &impl Eprint, name: &str, run: io::Result<()>) -> bool
+    ensures { result ≡ is_ok run }
+{
+    if let Err(error) = run {
+        let _ = eprintln!(rt; "{name}: {error}");
+    }
+    run.is_ok()
 }

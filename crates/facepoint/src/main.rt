@@ -4,7 +4,7 @@
 // said on standard error, and the program then ends with status 1.
 #![tactic(auto)]
 
-ghost use Rattle.std.specs.Prelude.{◌≡◌, eqb, length, take};
+ghost use Rattle.std.specs.Prelude.{◌≡◌, eqb, take};
 ghost use Rattle.text.specs.Page.{IsPrefixLen};
 ghost use Rattle.answers.specs.Answers.{paper, is_point};
 ghost use Rattle.facepoint.specs.Answer.{answer_to};
@@ -20,7 +20,7 @@ use thiserror::Error;
 const MOST_BYTES: usize = 65536;
 
 // One byte more shows that an input is longer.
-const ROOM: usize = 65537;
+const ROOM: usize = MOST_BYTES + 1;
 
 // The longest line: a point whose count has ten digits.
 const LINE: usize = 81;
@@ -47,8 +47,7 @@ fn answer_to(input: &[u8]) -> Answer
 
 // Puts an answer's line at the start of the page, which has room for the longest.
 #[tactic(auto, using(crate::proofs::Lines::line_first), unfolding(crate::specs::Line::line_of))]
-fn put_line(answer: Answer, page: &mut [u8]) -> usize
-    requires { length page.old ≡ 81 }
+fn put_line(answer: Answer, page: &mut [u8; LINE]) -> usize
     ensures prefix_len { IsPrefixLen result page.new }
     ensures page_after { take result page.new ≡ line_of answer }
 {

@@ -24,7 +24,7 @@ const MOST_NUMBERS: usize = 8 * MOST_PLACES;
 // A proved loop has to end: this is more than the file has.
 const MOST_PLATES: u64 = 10000;
 
-#[derive(Clone, Copy, Debug, PartialEq, Eq)]
+#[derive(Clone, Copy)]
 enum Call {
     Chart,
     ImagePick,
@@ -45,7 +45,7 @@ impl TryFrom<u32> for Call {
     }
 }
 
-// What stands before a plate's sheet. The number of its call is looked at behind the sheet.
+// What stands before a plate's sheet. Whether a call has the number is asked when the sheet is read.
 #[derive(Clone, Copy)]
 struct Plate {
     name: [u8; NAME_SIZE],
@@ -117,7 +117,7 @@ fn run_plate<R: Read>(rt: &impl Print, file: &mut R, plate: Plate) -> Result<(),
     cases::read_whole(file, sheet)?;
     let (answer, sum) = match Call::try_from(plate.call)? {
         Call::Chart => {
-            list.fill(UNWRITTEN);
+            cases::fill(list, UNWRITTEN);
             let answer = chart::chart(sheet, head.phase, list);
             (answer, Some(cases::check_sum(list)))
         }
@@ -153,11 +153,9 @@ fn run_file(rt: &(impl Files + Print), name: &str) -> io::Result<()> {
 
 fn main(rt: HostRuntime) -> ExitCode {
     let name = "plates";
-    match run_file(&rt, name) {
-        Ok(()) => ExitCode::SUCCESS,
-        Err(error) => {
-            let _ = eprintln!(rt; "{name}: {error}");
-            ExitCode::FAILURE
-        }
+    if cases::is_run(&rt, name, run_file(&rt, name)) {
+        ExitCode::SUCCESS
+    } else {
+        ExitCode::FAILURE
     }
 }
