@@ -5,7 +5,6 @@
 #![tactic(auto)]
 
 ghost use Rattle.std.specs.Prelude.{◌≡◌, eqb, take};
-ghost use Rattle.text.specs.Page.{IsPrefixLen};
 ghost use Rattle.answers.specs.Answers.{paper, is_point};
 ghost use Rattle.facepoint.specs.Answer.{answer_to};
 ghost use Rattle.facepoint.specs.Line.{line_of};
@@ -45,24 +44,23 @@ fn answer_to(input: &[u8]) -> Answer
     picker::plane_pick(input)
 }
 
-// Puts an answer's line at the start of the page, which has room for the longest.
+// An answer's line, at the start of the page.
 #[tactic(auto, using(crate::proofs::Lines::line_first), unfolding(crate::specs::Line::line_of))]
-fn put_line(answer: Answer, page: &mut [u8; LINE]) -> usize
-    ensures prefix_len { IsPrefixLen result page.new }
-    ensures page_after { take result page.new ≡ line_of answer }
+fn line<'a>(answer: Answer, page: &'a mut [u8; LINE]) -> &'a [u8]
+    ensures { result.now ≡ line_of answer }
 {
-    match answer {
+    let n = match answer {
         Answer::Point(x, y, z, clearance, count) => {
             text::point_line(x, y, z, clearance, count, 0, page)
         }
         Answer::Refused(number) => text::refusal_line(number, 0, page),
-    }
+    };
+    &page[..n]
 }
 
 fn print_line(rt: &impl Print, answer: Answer) -> io::Result<()> {
     let mut page = [0u8; LINE];
-    let n = put_line(answer, &mut page);
-    rt.write_all(&page[..n])
+    rt.write_all(line(answer, &mut page))
 }
 
 // Reads the sheet and prints the answer's line.

@@ -7,19 +7,16 @@
 // said on standard error, and the program ends with status 1.
 #![tactic(auto)]
 
-ghost use Rattle.std.specs.Prelude.{◌≡◌, ℕ, ◌-◌, ◌<◌, ◌≤◌, length, get_or};
-ghost use Rattle.text.specs.Page.{IsPrefixLen};
+ghost use Rattle.std.specs.Prelude.{◌≡◌, ℕ, ◌-◌, ◌<◌, ◌≤◌, length, take, get_or};
 
 use answers::Answer;
-use cases::{Head, MOST_BYTES, MOST_PLACES, RecordError, UNWRITTEN};
+use cases::{Head, MOST_BYTES, MOST_NUMBERS, MOST_PLACES, RecordError, UNWRITTEN};
 use std::fs;
 use std::io::{self, Read};
 use std::process::ExitCode;
 use std::rt::Files;
 
 const NAME_SIZE: usize = 32;
-
-const MOST_NUMBERS: usize = 8 * MOST_PLACES;
 
 // A proved loop has to end: this is more than the file has.
 const MOST_PLATES: u64 = 10000;
@@ -53,35 +50,34 @@ struct Plate {
     head: Head,
 }
 
-// How many bytes stand before the spaces at the end.
-fn before_spaces(name: &[u8]) -> usize
-    ensures counts { IsPrefixLen result name.now }
-    ensures spaces { (k : ℕ) → result ≤ k → k < length name.now → get_or name.now k 0 ≡ 32 }
-    ensures last { 0 < result → get_or name.now (result - 1) 0 ≡ 32 → ⊥ }
+// The bytes before the spaces at the end.
+fn before_spaces(name: &[u8]) -> &[u8]
+    ensures front { result.now ≡ take (length result.now) name.now }
+    ensures spaces { (k : ℕ) → length result.now ≤ k → k < length name.now → get_or name.now k 0 ≡ 32 }
+    ensures last { 0 < length result.now → get_or name.now (length result.now - 1) 0 ≡ 32 → ⊥ }
 {
-    name.iter().rposition(|b| *b != b' ').map_or(0, |k| k + 1)
+    let last = name.iter().rposition(|b| *b != b' ');
+    &name[..last.map_or(0, |k| k + 1)]
 }
 
-// Puts an answer's numbers at the start of the page.
-#[tactic(auto, using(crate::proofs::Pages::written))]
-fn put_answer(answer: Answer, page: &mut [u8]) -> usize
-    ensures { IsPrefixLen result page.new }
-{
-    match answer {
+// An answer's numbers, at the start of the page.
+#[tactic(auto, using(crate::proofs::Pages::behind_within))]
+fn answer_text<'a>(answer: Answer, page: &'a mut [u8; 80]) -> &'a [u8] {
+    let n = match answer {
         Answer::Point(x, y, z, clearance, count) => {
             text::put_point(x, y, z, clearance, count, 0, page)
         }
         Answer::Refused(number) => text::put_decimal(number, 0, page),
-    }
+    };
+    &page[..n]
 }
 
 // Writes a plate's line; `sum` is that of the chart's list.
 fn print_line(rt: &impl Print, name: &[u8], answer: Answer, sum: Option<u64>) -> io::Result<()> {
     let mut page = [0u8; 80];
-    let n = put_answer(answer, &mut page);
-    rt.write_all(&name[..before_spaces(name)])?;
+    rt.write_all(before_spaces(name))?;
     rt.write_all(b": ")?;
-    rt.write_all(&page[..n])?;
+    rt.write_all(answer_text(answer, &mut page))?;
     if let Some(sum) = sum {
         print!(rt; " {sum:016X}")?;
     }

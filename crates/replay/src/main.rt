@@ -23,7 +23,9 @@ ghost use Rattle.std.specs.Prelude.{◌≡◌, ◌+◌, ◌<◌, ◌≤◌};
 ghost use Rattle.replay.specs.Recorded.{recorded};
 
 use answers::{Answer, of_direction, of_middle, of_parameter, of_position};
-use cases::{Head, MOST_BYTES, MOST_PLACES, RecordError, UNWRITTEN, is_shown, u32_at, u64_at};
+use cases::{
+    Head, MOST_BYTES, MOST_NUMBERS, MOST_PLACES, RecordError, UNWRITTEN, is_shown, u32_at, u64_at,
+};
 use std::fs;
 use std::io::{self, Read};
 use std::process::ExitCode;
@@ -34,8 +36,6 @@ const MOST_RECORDS: u64 = 100000;
 
 // The longest front of a call after the picker.
 const MOST_FRONT: usize = 1024;
-
-const MOST_NUMBERS: usize = 8 * MOST_PLACES;
 
 // What a call left: its answer, and whether its list is the record's.
 #[derive(Clone, Copy)]
