@@ -9,7 +9,7 @@ use std::num::{f64_from_bits_with_nan, f64_to_bits_with_nan};
 // What every place holds before a recorded call. Bits 40C81C8000000000.
 pub const UNWRITTEN: f64 = 12345.0;
 
-// Puts x in every place.
+// Puts x in every place: std's `fill`, whose clauses are those of any type, said of f64.
 pub fn fill(list: &mut [f64], x: f64)
     ensures { list.new ≡ replicate (length list.old) x }
 {

@@ -1,5 +1,5 @@
-// What a program reads of a file, by whole buffers.
-ghost use Rattle.std.specs.Prelude.{◌≡◌, ◌<◌, List, ℕ, Ok, IfOk, OnOk, Err, IsErrOf, length, take};
+// What a program reads of a file, by whole buffers, and what it says of a file that cannot be read.
+ghost use Rattle.std.specs.Prelude.{◌≡◌, ◌<◌, List, ℕ, Ok, IfOk, OnOk, Err, IsErrOf, is_ok, length, take};
 ghost use Rattle.std.specs.Io.{ReadsAtMost};
 ghost use Rattle.std.specs.Io.KnownBytes.{Consumes, IsAtEnd};
 ghost use Rattle.cases.specs.Record.{head_of};
@@ -15,6 +15,7 @@ pub fn read_full<R: Read>(file: &mut R, buffer: &mut [u8]) -> io::Result<usize>
     ensures end { IfOk result (λ n. n < length buffer.new → IsAtEnd (R.remaining file.new)) }
 {
     let mut n = 0;
+    // A turn goes on by as many bytes as the file gave.
     while n < buffer.len() {
         match file.read(&mut buffer[n..])? {
             0 => break,
@@ -46,4 +47,14 @@ pub fn read_head<R: Read>(file: &mut R) -> Result<Option<Head>, RecordError>
     let mut bytes = [0u8; HEAD_SIZE];
     let n = read_full(file, &mut bytes).map_err(RecordError::Io)?;
     head_of(&bytes[..n])
+}
+
+// Whether a file was run; else it says on standard error what failed.
+pub fn is_run(rt: &impl Eprint, name: &str, run: io::Result<()>) -> bool
+    ensures { result ≡ is_ok run }
+{
+    if let Err(error) = run {
+        let _ = eprintln!(rt; "{name}: {error}");
+    }
+    run.is_ok()
 }

@@ -13,6 +13,9 @@ pub const MOST_BYTES: usize = 40000;
 
 pub const MOST_PLACES: usize = 6600;
 
+// The bytes of the longest list.
+pub const MOST_NUMBERS: usize = 8 * MOST_PLACES;
+
 // Why a record has no answer: the file ends within it or it holds what no record does, or reading or writing failed.
 #[derive(Clone, Copy, Debug, Error)]
 pub enum RecordError {

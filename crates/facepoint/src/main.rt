@@ -4,8 +4,7 @@
 // said on standard error, and the program then ends with status 1.
 #![tactic(auto)]
 
-ghost use Rattle.std.specs.Prelude.{◌≡◌, length, take};
-ghost use Rattle.text.specs.Page.{IsPrefixLen};
+ghost use Rattle.std.specs.Prelude.{◌≡◌};
 ghost use Rattle.answers.specs.Answers.{paper};
 ghost use Rattle.facepoint.specs.Answer.{answer_to};
 ghost use Rattle.facepoint.specs.Line.{line_of};
@@ -20,7 +19,7 @@ use thiserror::Error;
 const MOST_BYTES: usize = 65536;
 
 // One byte more shows that an input is longer.
-const ROOM: usize = 65537;
+const ROOM: usize = MOST_BYTES + 1;
 
 // The longest line: a point whose count has ten digits.
 const LINE: usize = 81;
@@ -45,23 +44,21 @@ fn answer_to(input: &[u8]) -> Answer
     picker::plane_pick(input)
 }
 
-// Puts an answer's line at the start of the page, which has room for the longest.
+// An answer's line, at the start of the page.
 #[tactic(auto, using(crate::proofs::Lines::line_first), unfolding(crate::specs::Line::line_of))]
-fn put_line(answer: Answer, page: &mut [u8]) -> usize
-    requires { length page.old ≡ 81 }
-    ensures prefix_len { IsPrefixLen result page.new }
-    ensures page_after { take result page.new ≡ line_of answer }
+fn line<'a>(answer: Answer, page: &'a mut [u8; LINE]) -> &'a [u8]
+    ensures { result.now ≡ line_of answer }
 {
-    match answer {
+    let n = match answer {
         Ok(v) => text::point_line(v.x, v.y, v.z, v.clearance, v.count, 0, page),
         Err(refusal) => text::refusal_line(u32::from(refusal), 0, page),
-    }
+    };
+    &page[..n]
 }
 
 fn print_line(rt: &impl Print, answer: Answer) -> io::Result<()> {
     let mut page = [0u8; LINE];
-    let n = put_line(answer, &mut page);
-    rt.write_all(&page[..n])
+    rt.write_all(line(answer, &mut page))
 }
 
 // Reads the sheet and prints the answer's line.

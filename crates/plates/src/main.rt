@@ -7,11 +7,10 @@
 // said on standard error, and the program ends with status 1.
 #![tactic(auto)]
 
-ghost use Rattle.std.specs.Prelude.{◌≡◌, ℕ, ◌-◌, ◌<◌, ◌≤◌, length, get_or};
-ghost use Rattle.text.specs.Page.{IsPrefixLen};
+ghost use Rattle.std.specs.Prelude.{◌≡◌, ℕ, ◌-◌, ◌<◌, ◌≤◌, length, take, get_or};
 
 use answers::Answer;
-use cases::{Head, MOST_BYTES, MOST_PLACES, RecordError, UNWRITTEN};
+use cases::{Head, MOST_BYTES, MOST_NUMBERS, MOST_PLACES, RecordError, UNWRITTEN};
 use std::fs;
 use std::io::{self, Read};
 use std::process::ExitCode;
@@ -19,12 +18,10 @@ use std::rt::Files;
 
 const NAME_SIZE: usize = 32;
 
-const MOST_NUMBERS: usize = 8 * MOST_PLACES;
-
 // A proved loop has to end: this is more than the file has.
 const MOST_PLATES: u64 = 10000;
 
-#[derive(Clone, Copy, Debug, PartialEq, Eq)]
+#[derive(Clone, Copy)]
 enum Call {
     Chart,
     ImagePick,
@@ -45,7 +42,7 @@ impl TryFrom<u32> for Call {
     }
 }
 
-// What stands before a plate's sheet. The number of its call is looked at behind the sheet.
+// What stands before a plate's sheet. Whether a call has the number is asked when the sheet is read.
 #[derive(Clone, Copy)]
 struct Plate {
     name: [u8; NAME_SIZE],
@@ -53,33 +50,32 @@ struct Plate {
     head: Head,
 }
 
-// How many bytes stand before the spaces at the end.
-fn before_spaces(name: &[u8]) -> usize
-    ensures counts { IsPrefixLen result name.now }
-    ensures spaces { (k : ℕ) → result ≤ k → k < length name.now → get_or name.now k 0 ≡ 32 }
-    ensures last { 0 < result → get_or name.now (result - 1) 0 ≡ 32 → ⊥ }
+// The bytes before the spaces at the end.
+fn before_spaces(name: &[u8]) -> &[u8]
+    ensures front { result.now ≡ take (length result.now) name.now }
+    ensures spaces { (k : ℕ) → length result.now ≤ k → k < length name.now → get_or name.now k 0 ≡ 32 }
+    ensures last { 0 < length result.now → get_or name.now (length result.now - 1) 0 ≡ 32 → ⊥ }
 {
-    name.iter().rposition(|b| *b != b' ').map_or(0, |k| k + 1)
+    let last = name.iter().rposition(|b| *b != b' ');
+    &name[..last.map_or(0, |k| k + 1)]
 }
 
-// Puts an answer's numbers at the start of the page.
-#[tactic(auto, using(crate::proofs::Pages::written))]
-fn put_answer(answer: Answer, page: &mut [u8]) -> usize
-    ensures { IsPrefixLen result page.new }
-{
-    match answer {
+// An answer's numbers, at the start of the page.
+#[tactic(auto, using(crate::proofs::Pages::behind_within))]
+fn answer_text<'a>(answer: Answer, page: &'a mut [u8; 80]) -> &'a [u8] {
+    let n = match answer {
         Ok(v) => text::put_point(v.x, v.y, v.z, v.clearance, v.count, 0, page),
         Err(refusal) => text::put_decimal(u32::from(refusal), 0, page),
-    }
+    };
+    &page[..n]
 }
 
 // Writes a plate's line; `sum` is that of the chart's list.
 fn print_line(rt: &impl Print, name: &[u8], answer: Answer, sum: Option<u64>) -> io::Result<()> {
     let mut page = [0u8; 80];
-    let n = put_answer(answer, &mut page);
-    rt.write_all(&name[..before_spaces(name)])?;
+    rt.write_all(before_spaces(name))?;
     rt.write_all(b": ")?;
-    rt.write_all(&page[..n])?;
+    rt.write_all(answer_text(answer, &mut page))?;
     if let Some(sum) = sum {
         print!(rt; " {sum:016X}")?;
     }
@@ -115,7 +111,7 @@ fn run_plate<R: Read>(rt: &impl Print, file: &mut R, plate: Plate) -> Result<(),
     cases::read_whole(file, sheet)?;
     let (answer, sum) = match Call::try_from(plate.call)? {
         Call::Chart => {
-            list.fill(UNWRITTEN);
+            cases::fill(list, UNWRITTEN);
             let answer = chart::chart(sheet, head.phase, list);
             (answer, Some(cases::check_sum(list)))
         }
@@ -151,11 +147,9 @@ fn run_file(rt: &(impl Files + Print), name: &str) -> io::Result<()> {
 
 fn main(rt: HostRuntime) -> ExitCode {
     let name = "plates";
-    match run_file(&rt, name) {
-        Ok(()) => ExitCode::SUCCESS,
-        Err(error) => {
-            let _ = eprintln!(rt; "{name}: {error}");
-            ExitCode::FAILURE
-        }
+    if cases::is_run(&rt, name, run_file(&rt, name)) {
+        ExitCode::SUCCESS
+    } else {
+        ExitCode::FAILURE
     }
 }

@@ -23,7 +23,9 @@ ghost use Rattle.std.specs.Prelude.{◌≡◌, ◌+◌, ◌<◌, ◌≤◌};
 ghost use Rattle.replay.specs.Recorded.{recorded};
 
 use answers::{Answer, IntoValues, Refusal, Values};
-use cases::{Head, MOST_BYTES, MOST_PLACES, RecordError, UNWRITTEN, is_shown, u32_at, u64_at};
+use cases::{
+    Head, MOST_BYTES, MOST_NUMBERS, MOST_PLACES, RecordError, UNWRITTEN, is_shown, u32_at, u64_at,
+};
 use std::fs;
 use std::io::{self, Read};
 use std::process::ExitCode;
@@ -34,8 +36,6 @@ const MOST_RECORDS: u64 = 100000;
 
 // The longest front of a call after the picker.
 const MOST_FRONT: usize = 1024;
-
-const MOST_NUMBERS: usize = 8 * MOST_PLACES;
 
 // What a call left: its answer, and whether its list is the record's.
 #[derive(Clone, Copy)]
@@ -169,6 +169,21 @@ fn run_records<F: Fn(&[u8], u32, &mut [f64], &[u8]) -> Result<Left, RecordError>
     Ok(tally)
 }
 
+// Loads the numbers of a call's front, eight bytes each, and makes the call. A front above the longest is broken.
+fn with_front<F: Fn(&[f64], u32, &[f64]) -> Result<Answer, RecordError>>(
+    bytes: &[u8],
+    whole: u32,
+    list: &[f64],
+    call: &F,
+) -> Result<Answer, RecordError>
+    requires { F.IsAlwaysCallable call.now }
+{
+    let mut front = [0.0f64; MOST_FRONT];
+    let front = front.get_mut(..bytes.len() / 8).ok_or(RecordError::Broken)?;
+    cases::load(front, bytes);
+    call(front, whole, list)
+}
+
 // Replays the records of a file, and writes how many there were, how many of the answers are points and how
 // many are wrong.
 fn run_file<F: Fn(&[u8], u32, &mut [f64], &[u8]) -> Result<Left, RecordError>>(
@@ -194,11 +209,7 @@ fn is_run<F: Fn(&[u8], u32, &mut [f64], &[u8]) -> Result<Left, RecordError>>(
 ) -> bool
     requires { F.IsAlwaysCallable call }
 {
-    let run = run_file(rt, name, call);
-    if let Err(error) = run {
-        let _ = eprintln!(rt; "{name}: {error}");
-    }
-    run.is_ok()
+    cases::is_run(rt, name, run_file(rt, name, call))
 }
 
 // The same of a call that is lent its list to read.
@@ -216,21 +227,6 @@ fn is_run_with_list<F: Fn(&[u8], u32, &[f64]) -> Result<Answer, RecordError>>(
             is_list_right: true,
         })
     })
-}
-
-// Loads the numbers of a call's front, eight bytes each, and makes the call. A front above the longest is broken.
-fn with_front<F: Fn(&[f64], u32, &[f64]) -> Result<Answer, RecordError>>(
-    bytes: &[u8],
-    whole: u32,
-    list: &[f64],
-    call: &F,
-) -> Result<Answer, RecordError>
-    requires { F.IsAlwaysCallable call.now }
-{
-    let mut front = [0.0f64; MOST_FRONT];
-    let front = front.get_mut(..bytes.len() / 8).ok_or(RecordError::Broken)?;
-    cases::load(front, bytes);
-    call(front, whole, list)
 }
 
 // The same of a call after the picker, whose numbers stand in front and list.
@@ -251,7 +247,7 @@ fn is_run_with_front<F: Fn(&[f64], u32, &[f64]) -> Result<Answer, RecordError>>(
 // Replays the calls of the picker.
 fn is_picker_run(rt: &(impl Files + Print + Eprint)) -> bool {
     let chart = is_run(rt, "chart", |sheet, phase, list, numbers| {
-        list.fill(UNWRITTEN);
+        cases::fill(list, UNWRITTEN);
         let answer = chart::chart(sheet, phase, list);
         let is_list_right = cases::wrong_places(list, numbers) == 0;
         Ok(Left {

@@ -42,6 +42,7 @@ fn digit(b: u8) -> u64
     }
 }
 
+// The number of these digits.
 fn number(digits: &[u8]) -> u64 {
     digits.iter().fold(0, |n, b| n << 4 | digit(*b))
 }
@@ -95,11 +96,7 @@ fn run_file<F: Fn(f64) -> f64>(rt: &(impl Files + Print), name: &str, leaf: F) -
 fn is_run<F: Fn(f64) -> f64>(rt: &(impl Files + Print + Eprint), name: &str, leaf: F) -> bool
     requires { F.IsAlwaysCallable leaf }
 {
-    let run = run_file(rt, name, leaf);
-    if let Err(error) = run {
-        let _ = eprintln!(rt; "{name}: {error}");
-    }
-    run.is_ok()
+    cases::is_run(rt, name, run_file(rt, name, leaf))
 }
 
 // Whether each number has the bits beside it.
@@ -131,10 +128,10 @@ fn constants_have_their_bits() -> bool
 }
 
 fn main(rt: HostRuntime) -> ExitCode {
-    let constants = constants_have_their_bits();
+    let are_right = constants_have_their_bits();
     let root = is_run(&rt, "root", |x| leaves::root(x));
     let round = is_run(&rt, "round", |x| leaves::round(x));
-    if constants && root && round {
+    if are_right && root && round {
         ExitCode::SUCCESS
     } else {
         ExitCode::FAILURE
