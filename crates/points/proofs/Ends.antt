@@ -6,9 +6,10 @@ use Prim.Native.Nat.{suc, ◌-◌, ◌≤◌}
 use native.Mathlib.Omega.{arith}
 use lib.Ieee.{binary64, sub}
 use lib.ListN.{length, get_or}
-use Rattle.std.proofs.Common.{Some}
+use Rattle.std.proofs.Common.{Some, None}
+use Rattle.std.specs.Option.{unwrap_or}
 use Rattle.std.proofs.lemmas.Option.{get_or_from_slice_get, none-some}
-use Rattle.std.specs.List.{slice_get}
+use Rattle.std.specs.List.{slice_get, last_or}
 use Rattle.leaves.specs.Bounds.{exceeds_of}
 use Rattle.leaves.specs.Constants.{pi}
 use Rattle.sheet.specs.Content.{Point}

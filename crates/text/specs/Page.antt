@@ -1,9 +1,5 @@
--- Bytes laid into a page, from a place on, and a part at its start.
-use Rattle.std.specs.Prelude.{◌≡◌, Bool, cond, List, ◌++◌, ℕ, ◌+◌, ◌≤◌, leb, length, take, drop}
-
--- the page has n bytes, and lent from its start they are n
-abbrev pub IsPrefixLen : ℕ → List ℕ → Type 0
-IsPrefixLen n page = (n ≤ length page) × (n ≡ length (take n page))
+-- Bytes laid into a page, from a place on.
+use Rattle.std.specs.Prelude.{Bool, cond, List, ◌++◌, ℕ, ◌+◌, leb, length, take, drop}
 
 -- the page has room for the bytes from `at` on
 abbrev pub room : ℕ → List ℕ → List ℕ → Bool

@@ -1,4 +1,4 @@
--- A list's places, the last of them, and the first corner that serves: found, and as an outcome.
+-- A list's places on the axes, and the first corner that serves: found, and as an outcome.
 use mathlib.Core.Path.{◌≡◌, refl, ap}
 use mathlib.Core.Bool.{Bool, true, false, cond}
 use mathlib.Core.List.{List, [], ◌∷◌, ◌++◌, map}
@@ -7,14 +7,13 @@ use native.Mathlib.Omega.{arith}
 use lib.Ieee.{Float}
 use lib.ListN.{length, length-append, length-map}
 use Rattle.std.proofs.Common.{Some, None}
-use Rattle.std.specs.List.{find, last_or}
-use Rattle.std.specs.Option.{unwrap_or}
+use Rattle.std.specs.List.{find}
+use Rattle.space.proofs.Triples.{length_triples}
 use Rattle.space.specs.Places.{triples}
 use Rattle.space.specs.declared.vectors.Place.{Place}
 use Rattle.answers.specs.Outcome.{refused}
 use Rattle.answers.specs.Answers.{place_numbers}
 use Rattle.sheet.specs.Content.{Point}
-use Rattle.points.specs.Bounds.{last_of}
 use Rattle.points.proofs.InPlace.{Written}
 use Rattle.vertex_fallback.specs.declared.corners.Corner.{Corner}
 use Rattle.vertex_fallback.specs.Vertices.{corners_of, centre_of, flattened, serves_of, first_serving, point_among}

@@ -2,7 +2,7 @@
 
 const MODIFIERS: [&str; 3] = ["pub ", "abbrev ", "unfoldable "];
 const TYPES: [&str; 2] = ["record ", "data "];
-const ITEMS: [&str; 5] = ["fn ", "const ", "struct ", "enum ", "trait "];
+const ITEMS: [&str; 6] = ["fn ", "const ", "struct ", "enum ", "trait ", "type "];
 
 /// Whether a text declares the name, told by the file's extension; of a text
 /// that is no source: whether it holds it.

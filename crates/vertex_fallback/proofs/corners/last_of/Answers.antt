@@ -5,7 +5,7 @@ use Rattle.std.proofs.lemmas.Iterator.{items_from_drains}
 use Rattle.std.proofs.lemmas.Iterator.Consumers.{YieldsList-from_first}
 use Rattle.space.specs.declared.vectors.Place.{Place}
 use Rattle.space.specs.Places.{places_left}
-use Rattle.vertex_fallback.proofs.Serving.{last_is}
+use Rattle.points.proofs.Ends.{last_is}
 use Rattle.vertex_fallback.proofs.corners.last_of.Goals as goal
 
 pub returns : goal.returns
