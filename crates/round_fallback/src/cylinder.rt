@@ -85,6 +85,7 @@ fn keep(sorted: &mut [f64]) -> &[f64]
     };
     let mut last = *first;
     let mut count = 1;
+    // By index, since the list is read and written in place: no slice has a dedup, and there is no heap for a Vec.
     for k in 1..sorted.len() {
         let x = sorted[k];
         if !is_near(x, last) {

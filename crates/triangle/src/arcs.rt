@@ -146,7 +146,8 @@ fn among(sphere: Sphere, sense: u32, arcs: [Arc; 3]) -> Result<Place, Refusal>
     Ok(on_sphere(sphere, p))
 }
 
-// The middle of a triangle of great-circle arcs: its sphere, the sense, and three sides.
+// The middle of a triangle of great-circle arcs: its sphere, the sense, and three sides. The sense is a number,
+// 0 absent, 1 forward, 2 reversed, since the call takes any and refuses one above 2.
 #[tactic(auto, using(answers::proofs::Calls::calls), unfolding(crate::specs::Triangle::triangle_of))]
 pub fn spherical_triangle(sphere: Sphere, sense: u32, sides: [Side; 3]) -> Result<Place, Refusal>
     ensures { position_paper result ≡ triangle_of sphere sense sides }
