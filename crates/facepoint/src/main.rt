@@ -44,9 +44,9 @@ fn answer_to(input: &[u8]) -> Answer
     picker::plane_pick(input)
 }
 
-// An answer's line, at the start of the page.
+// Puts an answer's line at the start of the page, and gives it.
 #[tactic(auto, using(crate::proofs::Lines::line_first), unfolding(crate::specs::Line::line_of))]
-fn line<'a>(answer: Answer, page: &'a mut [u8; LINE]) -> &'a [u8]
+fn put_line<'a>(answer: Answer, page: &'a mut [u8; LINE]) -> &'a [u8]
     ensures { result.now ≡ line_of answer }
 {
     let n = match answer {
@@ -58,7 +58,7 @@ fn line<'a>(answer: Answer, page: &'a mut [u8; LINE]) -> &'a [u8]
 
 fn print_line(rt: &impl Print, answer: Answer) -> io::Result<()> {
     let mut page = [0u8; LINE];
-    rt.write_all(line(answer, &mut page))
+    rt.write_all(put_line(answer, &mut page))
 }
 
 // Reads the sheet and prints the answer's line.

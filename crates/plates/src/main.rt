@@ -60,9 +60,9 @@ fn before_spaces(name: &[u8]) -> &[u8]
     &name[..last.map_or(0, |k| k + 1)]
 }
 
-// An answer's numbers, at the start of the page.
+// Puts an answer's numbers at the start of the page, and gives them.
 #[tactic(auto, using(crate::proofs::Pages::behind_within))]
-fn answer_text<'a>(answer: Answer, page: &'a mut [u8; 80]) -> &'a [u8] {
+fn put_answer<'a>(answer: Answer, page: &'a mut [u8; 80]) -> &'a [u8] {
     let n = match answer {
         Ok(v) => text::put_point(v.x, v.y, v.z, v.clearance, v.count, 0, page),
         Err(refusal) => text::put_decimal(u32::from(refusal), 0, page),
@@ -75,7 +75,7 @@ fn print_line(rt: &impl Print, name: &[u8], answer: Answer, sum: Option<u64>) ->
     let mut page = [0u8; 80];
     rt.write_all(before_spaces(name))?;
     rt.write_all(b": ")?;
-    rt.write_all(answer_text(answer, &mut page))?;
+    rt.write_all(put_answer(answer, &mut page))?;
     if let Some(sum) = sum {
         print!(rt; " {sum:016X}")?;
     }
