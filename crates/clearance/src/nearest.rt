@@ -8,10 +8,10 @@ ghost use Rattle.clearance.specs.Nearest.{least_key, stops_at, Stop};
 
 use crate::straight::straight_key;
 use points::Segment;
-use sheet::Point;
+use sheet::{COEDGE_POINTS, Point};
 
 // The segments of four coedges.
-const FEW_SEGMENTS: usize = 68;
+const FEW_SEGMENTS: usize = 4 * COEDGE_POINTS;
 
 // The larger key, and the place of a segment that has it or that stopped the scan.
 #[derive(Clone, Copy)]
@@ -54,7 +54,8 @@ fn scan(p: Point, bar: f64, list: &[Segment]) -> Near
 }
 
 // The place of a segment beside the one in `place`, eight, four, two or one before or behind it, that stops. One
-// from further on stops more of the rows that follow.
+// from further on stops more of the rows that follow. It is kept out of the scan's code: in line it was slower by 3 %.
+#[inline(never)]
 fn stop_beside(p: Point, bar: f64, place: usize, list: &[Segment]) -> Option<usize>
     ensures { Stop p bar result list.now }
 {
@@ -72,13 +73,17 @@ fn stop_beside(p: Point, bar: f64, place: usize, list: &[Segment]) -> Option<usi
     None
 }
 
-// The place of a segment that stops, of every seventeenth, which is one of each coedge.
+// The place of a segment that stops, of the first of each coedge.
 fn stop_among(p: Point, bar: f64, list: &[Segment]) -> Option<usize>
     ensures { Stop p bar result list.now }
 {
-    (0..list.len())
-        .step_by(17)
-        .find(|k| stops(p, bar, *k, list))
+    for coedge in 0..=list.len() / COEDGE_POINTS {
+        let place = COEDGE_POINTS * coedge;
+        if stops(p, bar, place, list) {
+            return Some(place);
+        }
+    }
+    None
 }
 
 // The place of a segment that stops, of those that are likely to. Where those in the places of `hints` stopped a grid

@@ -5,14 +5,14 @@ ghost use Rattle.points.specs.Segments.{segments};
 ghost use Rattle.clearance.specs.Clearance.{laid};
 
 use points::Segment;
-use sheet::{ORIGIN, Point};
+use sheet::{MOST_POINTS, ORIGIN, Point, SMALL_POINTS};
 
-// The segments of the largest accepted sheet.
-pub const MOST_SEGMENTS: usize = 2176;
+// The segments of the largest accepted sheet: as many as its points.
+pub const MOST_SEGMENTS: usize = MOST_POINTS;
 
 // Those of a sheet of at most 16 coedges, as nearly every face's is: they are worked out in small arrays, so
 // that little is cleared.
-pub const SMALL_SEGMENTS: usize = 272;
+pub const SMALL_SEGMENTS: usize = SMALL_POINTS;
 
 // What stands in a list before its segments do.
 pub const NO_SEGMENT: Segment = Segment {
