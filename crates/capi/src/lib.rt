@@ -98,10 +98,7 @@ pub extern "C" fn facepoint_point_on(
 ) -> u32
     ensures { returned result list.new ≡ returned_of (point_on_of u_axis.now normal.now corners.now) list.old }
 {
-    put(
-        vertex_fallback::point_on(u_axis, normal, corners),
-        list,
-    )
+    put(vertex_fallback::point_on(u_axis, normal, corners), list)
 }
 
 // The round fallback: the middle angle, the middle height.
@@ -109,10 +106,7 @@ pub extern "C" fn facepoint_point_on(
 pub extern "C" fn facepoint_cylinder_point(heights: &[f64], angles: &[f64], list: &mut [f64]) -> u32
     ensures { returned result list.new ≡ returned_of (cylinder_point_of heights.now angles.now) list.old }
 {
-    put(
-        round_fallback::cylinder_point(heights, angles),
-        list,
-    )
+    put(round_fallback::cylinder_point(heights, angles), list)
 }
 
 // A point by a transform of twelve numbers, row by row: x, y, z.
