@@ -5,6 +5,7 @@
 
 mod checks;
 mod fields;
+mod kind;
 mod parts;
 mod point;
 mod walk;
@@ -14,5 +15,6 @@ pub use fields::{
     COEDGE_POINTS, MOST_COEDGES, MOST_NUMBERS, MOST_POINTS, MOST_RINGS, SMALL_NUMBERS,
     SMALL_POINTS, byte_at, head_size, number,
 };
+pub use kind::Kind;
 pub use parts::{BlockCoedges, CoedgePoints, RingBlocks, coedges, points, ring_blocks};
 pub use point::{ORIGIN, Point};
