@@ -1,5 +1,6 @@
 pub mod Turns
 pub mod Unroll
+pub mod Phases
 pub mod Bounds
 pub mod Joins
 pub mod Normalise

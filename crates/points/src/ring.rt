@@ -7,9 +7,10 @@ ghost use Rattle.sheet.specs.Layout.{coedge, ring};
 ghost use Rattle.points.specs.Unroll.{near, wrapped, moved, moved_ring};
 ghost use Rattle.points.specs.Normalise.{normal};
 
+use crate::phase::Phase;
 use crate::turns::turns;
 use leaves::constants::TAU;
-use sheet::Point;
+use sheet::{Kind, Point};
 
 // The points of a coedge.
 fn read_coedge(part: &[u8], points: &mut [Point])
@@ -38,12 +39,16 @@ pub fn read(block: &[u8], points: &mut [Point])
 
 // Rule 1: v is wrapped in phase 1 only.
 #[tactic(auto, unfolding(crate::specs::Unroll::wrapped))]
-fn wrapped(phase: u32, p: Point) -> Point
+fn wrapped(phase: Phase, p: Point) -> Point
     ensures { result ≡ wrapped phase p }
 {
     Point {
         u: p.u,
-        v: if phase == 1 { leaves::wrap(p.v) } else { p.v },
+        v: if phase.is_second() {
+            leaves::wrap(p.v)
+        } else {
+            p.v
+        },
     }
 }
 
@@ -57,16 +62,16 @@ fn near_previous(previous: f64, x: f64) -> f64
 
 // Rule 2: u moves for kinds 1 to 4, v for kind 4.
 #[tactic(auto, unfolding(crate::specs::Unroll::moved))]
-fn moved(kind: u8, previous: Point, p: Point) -> Point
+fn moved(kind: Kind, previous: Point, p: Point) -> Point
     ensures { result ≡ moved kind previous p }
 {
     Point {
-        u: if matches!(kind, 1..=4) {
+        u: if kind.turns() {
             near_previous(previous.u, p.u)
         } else {
             p.u
         },
-        v: if kind == 4 {
+        v: if kind.is_torus() {
             near_previous(previous.v, p.v)
         } else {
             p.v
@@ -76,7 +81,7 @@ fn moved(kind: u8, previous: Point, p: Point) -> Point
 
 // Rules 1 and 2, in place: every point wrapped for the phase, and every point after the first moved by
 // whole turns to be near the moved point before it.
-pub fn unroll(kind: u8, phase: u32, points: &mut [Point])
+pub fn unroll(kind: Kind, phase: Phase, points: &mut [Point])
     ensures { points.new ≡ moved_ring kind phase points.old }
 {
     let Some((first, rest)) = points.split_first_mut() else {

@@ -14,7 +14,7 @@ kind_number Nurbs = 5
 kind_number Other = 6
 kind_number (Unknown byte) = byte
 
--- a byte below 7 is always said by its name
+-- a number below 7 is always said by its name
 unfoldable pub is_kind : Named → Type 0
 is_kind Plane = Unit {0}
 is_kind Cylinder = Unit {0}
@@ -25,7 +25,7 @@ is_kind Nurbs = Unit {0}
 is_kind Other = Unit {0}
 is_kind (Unknown byte) = 6 < byte
 
--- the kind of a byte
+-- the kind of a number
 unfoldable pub kind_named : ℕ → Named
 kind_named zero = Plane
 kind_named (suc zero) = Cylinder
@@ -36,21 +36,21 @@ kind_named (suc (suc (suc (suc (suc zero))))) = Nurbs
 kind_named (suc (suc (suc (suc (suc (suc zero)))))) = Other
 kind_named (suc (suc (suc (suc (suc (suc (suc n))))))) = Unknown (suc (suc (suc (suc (suc (suc (suc n)))))))
 
--- a kind is told by its byte
-pub named_again : (k : Named) → is_kind k → kind_named (kind_number k) ≡ k
+-- a kind is told by its number
+pub kind_again : (k : Named) → is_kind k → kind_named (kind_number k) ≡ k
 unfolding is_kind kind_named kind_number
-named_again Plane h = refl
-named_again Cylinder h = refl
-named_again Cone h = refl
-named_again Sphere h = refl
-named_again Torus h = refl
-named_again Nurbs h = refl
-named_again Other h = refl
-named_again (Unknown (suc (suc (suc (suc (suc (suc (suc n)))))))) h = refl
-named_again (Unknown zero) h = absurd (omega (arith, h))
-named_again (Unknown (suc zero)) h = absurd (omega (arith, h))
-named_again (Unknown (suc (suc zero))) h = absurd (omega (arith, h))
-named_again (Unknown (suc (suc (suc zero)))) h = absurd (omega (arith, h))
-named_again (Unknown (suc (suc (suc (suc zero))))) h = absurd (omega (arith, h))
-named_again (Unknown (suc (suc (suc (suc (suc zero)))))) h = absurd (omega (arith, h))
-named_again (Unknown (suc (suc (suc (suc (suc (suc zero))))))) h = absurd (omega (arith, h))
+kind_again Plane h = refl
+kind_again Cylinder h = refl
+kind_again Cone h = refl
+kind_again Sphere h = refl
+kind_again Torus h = refl
+kind_again Nurbs h = refl
+kind_again Other h = refl
+kind_again (Unknown (suc (suc (suc (suc (suc (suc (suc n)))))))) h = refl
+kind_again (Unknown zero) h = absurd (omega (arith, h))
+kind_again (Unknown (suc zero)) h = absurd (omega (arith, h))
+kind_again (Unknown (suc (suc zero))) h = absurd (omega (arith, h))
+kind_again (Unknown (suc (suc (suc zero)))) h = absurd (omega (arith, h))
+kind_again (Unknown (suc (suc (suc (suc zero))))) h = absurd (omega (arith, h))
+kind_again (Unknown (suc (suc (suc (suc (suc zero)))))) h = absurd (omega (arith, h))
+kind_again (Unknown (suc (suc (suc (suc (suc (suc zero))))))) h = absurd (omega (arith, h))

@@ -1,4 +1,5 @@
 pub mod Content
 pub mod Kinds
+pub mod Senses
 pub mod Layout
 pub mod Checks

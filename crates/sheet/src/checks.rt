@@ -4,7 +4,7 @@ ghost use Rattle.sheet.specs.Layout.{plane, sheet_of};
 ghost use Rattle.sheet.specs.Checks.{length_wrong, version_wrong, kind_wrong, count_wrong, blocks_wrong, plane_wrong, layout_checks, content_checks};
 ghost use Rattle.answers.specs.Outcome.{first, status_of};
 
-use crate::fields::{byte_at, head_size, word};
+use crate::fields::{byte_at, head_size, kind_of, word};
 use crate::walk::{COORDINATE_LIMIT, any_beyond, blocks_fill, coedges_wrong, rings_wrong};
 use answers::Refusal;
 
@@ -53,7 +53,7 @@ fn count_wrong(s: &[u8]) -> bool
 fn blocks_wrong(s: &[u8]) -> bool
     ensures { result ≡ blocks_wrong s.now }
 {
-    let from = head_size(byte_at(s, 5));
+    let from = head_size(kind_of(s));
     s.len() < from || !blocks_fill(&s[from..], byte_at(s, 7))
 }
 
@@ -62,7 +62,7 @@ fn blocks_wrong(s: &[u8]) -> bool
 fn plane_wrong(s: &[u8]) -> bool
     ensures { result ≡ plane_wrong (plane s.now) }
 {
-    byte_at(s, 5) == 0
+    kind_of(s).is_plane()
         && (any_beyond(COORDINATE_LIMIT, s, 8, 3) || any_beyond(AXIS_LIMIT, s, 32, 6))
 }
 

@@ -1,7 +1,9 @@
 // The fields of a sheet of version 1.
 ghost use Rattle.std.specs.Prelude.{◌≡◌, ◌+◌, ◌<◌, ◌≤◌, length, get_or, take, drop};
-ghost use Rattle.sheet.specs.Layout.{big, number as number_at, number_of, head_size, block_size};
+ghost use Rattle.sheet.specs.Layout.{big, number as number_at, number_of, kind, sense, head_size, block_size};
 
+use crate::kind::Kind;
+use crate::sense::Sense;
 use std::num::f64_from_bits_with_nan;
 
 // Ring blocks of a sheet, and coedges of all of them together, at most.
@@ -20,11 +22,6 @@ pub const COEDGE_POINTS: usize = 17;
 pub const MOST_POINTS: usize = 2176;
 
 pub const SMALL_POINTS: usize = 272;
-
-// The same in numbers.
-pub const MOST_NUMBERS: usize = 4352;
-
-pub const SMALL_NUMBERS: usize = 544;
 
 // The byte at a place; 0 past the end.
 pub fn byte_at(s: &[u8], at: usize) -> u8
@@ -66,12 +63,26 @@ pub fn number(s: &[u8], at: usize) -> f64
     float(u64::from_be_bytes(*bytes))
 }
 
+// The surface's kind.
+pub fn kind_of(s: &[u8]) -> Kind
+    ensures { result ≡ kind s.now }
+{
+    Kind::from(byte_at(s, 5))
+}
+
+// The surface's sense.
+pub fn sense_of(s: &[u8]) -> Sense
+    ensures { result ≡ sense s.now }
+{
+    Sense::from(byte_at(s, 6))
+}
+
 // How many bytes stand before the ring blocks: a plane has nine numbers there.
 #[tactic(auto, unfolding(crate::specs::Layout::head_size))]
-pub fn head_size(kind: u8) -> usize
+pub fn head_size(kind: Kind) -> usize
     ensures { result ≡ head_size kind }
 {
-    if kind == 0 { 80 } else { 8 }
+    if kind.is_plane() { 80 } else { 8 }
 }
 
 // The size of the ring block that the bytes begin with.

@@ -25,7 +25,7 @@ pub struct Kind {
 impl Model for Kind {
     ghost use Rattle.std.specs.Prelude.{ℕ};
     ghost use Rattle.std.proofs.Common.{ap};
-    ghost use Rattle.sheet.specs.Kinds.{kind_number, is_kind, kind_named, named_again};
+    ghost use Rattle.sheet.specs.Kinds.{kind_number, is_kind, kind_named, kind_again};
 
     ghost Value = { ℕ };
 
@@ -35,7 +35,7 @@ impl Model for Kind {
 
     ghost inverse = { λ number. record { named = kind_named number } };
 
-    ghost inverse_ok = { λ kind h. ap (λ named. record { named = named }) (named_again kind.named h) };
+    ghost inverse_ok = { λ kind h. ap (λ named. record { named = named }) (kind_again kind.named h) };
 }
 
 impl From<u8> for Kind {

@@ -8,13 +8,15 @@ mod fields;
 mod kind;
 mod parts;
 mod point;
+mod sense;
 mod walk;
 
 pub use checks::check;
 pub use fields::{
-    COEDGE_POINTS, MOST_COEDGES, MOST_NUMBERS, MOST_POINTS, MOST_RINGS, SMALL_NUMBERS,
-    SMALL_POINTS, byte_at, head_size, number,
+    COEDGE_POINTS, MOST_COEDGES, MOST_POINTS, MOST_RINGS, SMALL_POINTS, byte_at, head_size,
+    kind_of, number, sense_of,
 };
 pub use kind::Kind;
 pub use parts::{BlockCoedges, CoedgePoints, RingBlocks, coedges, points, ring_blocks};
 pub use point::{ORIGIN, Point};
+pub use sense::Sense;

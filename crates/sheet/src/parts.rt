@@ -5,7 +5,7 @@ ghost use Rattle.std.specs.Iterator.{YieldsFirst, YieldsFirstBy, item_count};
 ghost use Rattle.sheet.specs.Layout.{blocks, coedge, ring};
 
 use crate::fields::{
-    BLOCK_HEAD, COEDGE_POINTS, COEDGE_SIZE, block_size, byte_at, head_size, number,
+    BLOCK_HEAD, COEDGE_POINTS, COEDGE_SIZE, block_size, byte_at, head_size, kind_of, number,
 };
 use crate::point::Point;
 use std::marker::Model;
@@ -58,7 +58,7 @@ impl<'a> Iterator for RingBlocks<'a> {
 pub fn ring_blocks(s: &[u8]) -> RingBlocks<'_>
     ensures { result ≡ blocks s.now }
 {
-    let (_head, rest) = parted(s, head_size(byte_at(s, 5)));
+    let (_head, rest) = parted(s, head_size(kind_of(s)));
     RingBlocks {
         rest,
         left: byte_at(s, 7),

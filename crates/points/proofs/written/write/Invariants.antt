@@ -7,4 +7,4 @@ use Rattle.points.proofs.InPlace.{Written}
 use Rattle.points.proofs.written.write.Given as goal
 
 abbrev pub invariant-loop-k : goal.invariant-loop-k
-invariant-loop-k l = Written l.initial.out l.out (2 * l.k) (flat (map (written_point l.phase) (drop l.k l.points))) (flat (map (written_point l.phase) l.points))
+invariant-loop-k l = Written l.initial.out l.out (2 * l.k) (flat (map (written_point l.fn.phase) (drop l.k l.points))) (flat (map (written_point l.fn.phase) l.points))
