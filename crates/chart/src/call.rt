@@ -8,10 +8,11 @@ ghost use Rattle.chart.specs.Stages.{Passed};
 
 use crate::grid_point::{Found, find};
 use answers::{Answer, Refusal, Values};
+use points::Phase;
 use sheet::{MOST_POINTS, ORIGIN, Point, SMALL_POINTS};
 
 // The chosen grid point back in the chart, with its clearance and the count.
-fn values(found: Found, phase: u32) -> Values
+fn values(found: Found, phase: Phase) -> Values
     ensures { values_numbers result ≡ answered found.frame phase found.best }
 {
     let p = found.point(phase);
@@ -28,7 +29,7 @@ fn values(found: Found, phase: u32) -> Values
 // `ends` for the rings' ends.
 fn chart_over(
     s: &[u8],
-    phase: u32,
+    phase: Phase,
     moved: &mut [Point],
     ends: &mut [usize],
     points: &mut [f64],
@@ -44,7 +45,7 @@ fn chart_over(
 // The same, over lists of its own, of which the first has room for N points.
 fn chart_within<const N: usize>(
     s: &[u8],
-    phase: u32,
+    phase: Phase,
     n: usize,
     count: usize,
     points: &mut [f64],
@@ -59,7 +60,7 @@ fn chart_within<const N: usize>(
 
 // The chart of a sheet at a phase: the chosen grid point, and the moved points in the output list, which a
 // refusal leaves as it is.
-pub fn chart(s: &[u8], phase: u32, points: &mut [f64]) -> Answer
+pub fn chart(s: &[u8], phase: Phase, points: &mut [f64]) -> Answer
     ensures { charted (paper result) points.new ≡ chart_of s.now phase points.old }
 {
     frame::check(s, phase)?;

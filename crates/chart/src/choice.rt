@@ -9,7 +9,7 @@ use clearance::NO_SEGMENT;
 use frame::{Frame, Rings};
 use points::Segment;
 use search::Candidate;
-use sheet::{MOST_POINTS, ORIGIN, Point, SMALL_POINTS};
+use sheet::{MOST_POINTS, ORIGIN, Point, SMALL_POINTS, Sense};
 
 // P where the chart is periodic.
 fn period_of(f: Frame) -> Option<f64>
@@ -34,7 +34,7 @@ fn lay_rings(period: Option<f64>, rings: Rings, list: &mut [Segment]) -> usize
 }
 
 // The grid point chosen from the normalised rings. `list` has room for their segments.
-fn chosen_from(f: Frame, sense: u8, rings: Rings, list: &mut [Segment]) -> Candidate
+fn chosen_from(f: Frame, sense: Sense, rings: Rings, list: &mut [Segment]) -> Candidate
     requires { (length (flatten (rings_in rings)) ≤ length list.old) × (length list.old ≤ 2176) × (length rings.points.now ≤ 2176) × (length rings.ends.now ≤ 256) }
     ensures { result ≡ candidate f sense (rings_in rings.entry) }
 {
@@ -48,7 +48,7 @@ fn chosen_from(f: Frame, sense: u8, rings: Rings, list: &mut [Segment]) -> Candi
 // The grid point chosen in a frame. `normal` has room for just the normalised points, `list` for their segments.
 fn chosen_over(
     f: Frame,
-    sense: u8,
+    sense: Sense,
     rings: Rings,
     normal: &mut [Point],
     list: &mut [Segment],
@@ -65,7 +65,7 @@ fn chosen_over(
 }
 
 // The same, over lists of its own that have room for N points and as many segments.
-fn chosen_within<const N: usize>(f: Frame, sense: u8, rings: Rings) -> Candidate
+fn chosen_within<const N: usize>(f: Frame, sense: Sense, rings: Rings) -> Candidate
     requires { Packed rings.ends.now rings.points.now × (length rings.points.now ≤ N) × (N ≤ 2176) × (length rings.ends.now ≤ 256) }
     ensures { result ≡ candidate f sense (normalised_by f (rings_in rings.entry)) }
 {
@@ -76,7 +76,7 @@ fn chosen_within<const N: usize>(f: Frame, sense: u8, rings: Rings) -> Candidate
 }
 
 // The same, by the number of points.
-pub(crate) fn chosen(f: Frame, sense: u8, rings: Rings) -> Candidate
+pub(crate) fn chosen(f: Frame, sense: Sense, rings: Rings) -> Candidate
     requires { Packed rings.ends.now rings.points.now × (length rings.points.now ≤ 2176) × (length rings.ends.now ≤ 256) }
     ensures { result ≡ candidate f sense (normalised_by f (rings_in rings.entry)) }
 {

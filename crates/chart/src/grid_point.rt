@@ -10,6 +10,7 @@ use crate::choice::chosen;
 use answers::Refusal;
 use frame::{Frame, Rings};
 use leaves::constants::CLEARANCE_LIMIT;
+use points::Phase;
 use search::Candidate;
 use sheet::Point;
 
@@ -22,7 +23,7 @@ pub struct Found {
 
 impl Found {
     // The grid point back in the chart: u = least + p.u x scale, v = least + p.v x scale - phase.
-    pub fn point(self, phase: u32) -> Point
+    pub fn point(self, phase: Phase) -> Point
         ensures { (result.u ≡ (answered self.frame phase self.best).x) × (result.v ≡ (answered self.frame phase self.best).y) }
     {
         let frame = self.frame;
@@ -38,14 +39,14 @@ impl Found {
 // the sheet's are refused with 9, and stay as they are.
 pub fn find(
     s: &[u8],
-    phase: u32,
+    phase: Phase,
     points: &mut [Point],
     ends: &mut [usize],
 ) -> Result<Found, Refusal>
     ensures { (numbered result ≡ found_of (fitting (sheet_of s.now) (length points.old) (length ends.old)) (sheet_of s.now) phase) × (points.new ≡ laid_points (fitting (sheet_of s.now) (length points.old) (length ends.old)) (sheet_of s.now) phase points.old) × (ends.new ≡ laid_ends (fitting (sheet_of s.now) (length points.old) (length ends.old)) (sheet_of s.now) phase ends.old) }
 {
     let frame = frame::lay_out(s, phase, points, ends)?;
-    let best = chosen(frame, sheet::byte_at(s, 6), Rings { points, ends });
+    let best = chosen(frame, sheet::sense_of(s), Rings { points, ends });
     if CLEARANCE_LIMIT < best.clearance {
         Ok(Found { frame, best })
     } else {

@@ -14,7 +14,7 @@ use crate::marks::{mark_flips, mark_windings};
 use crate::winding::add_ring;
 use frame::{Frame, Rings};
 use inside::GRID_POINTS;
-use sheet::MOST_POINTS;
+use sheet::{MOST_POINTS, Sense};
 
 // At most so many rings are looked at, more than a sheet can have, and as many points as the largest sheet has. So no
 // sum of windings overflows.
@@ -54,7 +54,7 @@ fn flip_rings(rings: Rings, cells: &mut [bool; GRID_POINTS])
 }
 
 // Marks the covered grid points of a periodic chart, by the sum of the windings.
-fn cover_by_winding(f: Frame, sense: u8, rings: Rings, covered: &mut [bool; GRID_POINTS])
+fn cover_by_winding(f: Frame, sense: Sense, rings: Rings, covered: &mut [bool; GRID_POINTS])
     requires { (f.periodic ≡ true) × (length rings.points.now ≤ 2176) × (length rings.ends.now ≤ 256) }
     ensures { covered.new ≡ grid_of (λ (i j : ℕ). covered_of f sense (rings_in rings.entry) (grid_point i j)) }
 {
@@ -65,7 +65,7 @@ fn cover_by_winding(f: Frame, sense: u8, rings: Rings, covered: &mut [bool; GRID
 
 // Those of any other chart, by whether the number of rings that a grid point is inside of is odd: no more of it is
 // asked, since an odd number of rings is above 0.
-fn cover_by_inside(f: Frame, sense: u8, rings: Rings, covered: &mut [bool; GRID_POINTS])
+fn cover_by_inside(f: Frame, sense: Sense, rings: Rings, covered: &mut [bool; GRID_POINTS])
     requires { f.periodic ≡ false }
     ensures { covered.new ≡ grid_of (λ (i j : ℕ). covered_of f sense (rings_in rings.entry) (grid_point i j)) }
 {
@@ -76,7 +76,7 @@ fn cover_by_inside(f: Frame, sense: u8, rings: Rings, covered: &mut [bool; GRID_
 
 // Whether each grid point is covered, over the front of `covered`, whose tail keeps its contents; a list that is too
 // short for the grid stays as it is.
-pub fn cover(f: Frame, sense: u8, rings: Rings, covered: &mut [bool])
+pub fn cover(f: Frame, sense: Sense, rings: Rings, covered: &mut [bool])
     ensures { covered.new ≡ over (grid_of (λ (i j : ℕ). covered_of f sense (rings_from 0 (take 256 rings.entry.ends.now) (take 2176 rings.entry.points.now)) (grid_point i j))) covered.old }
 {
     let Some(front) = covered.first_chunk_mut::<GRID_POINTS>() else {

@@ -4,6 +4,7 @@ ghost use Rattle.inside.specs.Lines.{Holds, in_rows};
 ghost use Rattle.coverage.specs.Coverage.{oddℤ, on_side, covered_by};
 
 use inside::GRID_POINTS;
+use sheet::Sense;
 
 // Whether the crossings are odd, either sign.
 #[tactic(auto, using(std::proofs::lemmas::Int::ints, crate::proofs::Sides::odd))]
@@ -15,19 +16,15 @@ fn is_odd(n: i64) -> bool
 
 // On a band: positive for sense 1, negative for sense 2, nothing for sense 0.
 #[tactic(auto, using(crate::proofs::Sides::sides), unfolding(crate::specs::Coverage::on_side))]
-fn on_side(sense: u8, n: i64) -> bool
+fn on_side(sense: Sense, n: i64) -> bool
     ensures { result ≡ on_side sense n }
 {
-    match sense {
-        1 => 0 < n,
-        2 => n < 0,
-        _ => false,
-    }
+    sense.is_forward() && 0 < n || sense.is_reversed() && n < 0
 }
 
 // Whether a grid point with these crossings is covered.
 #[tactic(auto, using(std::proofs::lemmas::Int::ints), unfolding(crate::specs::Coverage::covered_by))]
-fn is_covered(band: bool, sense: u8, n: i64) -> bool
+fn is_covered(band: bool, sense: Sense, n: i64) -> bool
     ensures { result ≡ covered_by band sense n }
 {
     is_odd(n) && (!band || on_side(sense, n))
@@ -37,7 +34,7 @@ fn is_covered(band: bool, sense: u8, n: i64) -> bool
 #[tactic(auto, using(std::proofs::lemmas::Int::ints, inside::proofs::Cells::cell_by_cell))]
 pub(crate) fn mark_windings(
     band: bool,
-    sense: u8,
+    sense: Sense,
     sums: &[i64; GRID_POINTS],
     covered: &mut [bool; GRID_POINTS],
 )
@@ -63,7 +60,7 @@ pub(crate) fn next_row(at: usize) -> usize
 #[tactic(auto, using(std::proofs::lemmas::Int::ints, inside::proofs::Cells::cell_by_cell))]
 pub(crate) fn mark_flips(
     band: bool,
-    sense: u8,
+    sense: Sense,
     cells: &[bool; GRID_POINTS],
     covered: &mut [bool; GRID_POINTS],
 )

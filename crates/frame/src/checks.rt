@@ -6,17 +6,18 @@ ghost use Rattle.frame.specs.Framing.{phase_wrong, point_count};
 ghost use Rattle.frame.specs.Seam.{phase_checks};
 
 use answers::Refusal;
+use points::Phase;
 
 // 8: a phase that is neither 0 nor 1, or 1 off a torus.
 #[tactic(auto, unfolding(crate::specs::Framing::phase_wrong, sheet::specs::Layout::sheet_of))]
-fn phase_wrong(s: &[u8], phase: u32) -> bool
+fn phase_wrong(s: &[u8], phase: Phase) -> bool
     ensures { result ≡ phase_wrong (sheet_of s.now) phase }
 {
-    1 < phase || phase == 1 && sheet::byte_at(s, 5) != 4
+    phase.is_unknown() || phase.is_second() && !sheet::kind_of(s).is_torus()
 }
 
 // The first check of 1 to 8 that fails.
-pub fn check(s: &[u8], phase: u32) -> Result<(), Refusal>
+pub fn check(s: &[u8], phase: Phase) -> Result<(), Refusal>
     ensures { status_of result ≡ first (phase_checks s.now phase) }
 {
     sheet::check(s)?;

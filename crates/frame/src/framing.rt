@@ -9,7 +9,7 @@ ghost use Rattle.frame.specs.Stages.{open_every};
 use crate::ring_list::Rings;
 use answers::Refusal;
 use leaves::constants::{PI, SCALE_LIMIT, TAU};
-use sheet::Point;
+use sheet::{Kind, Point};
 
 // What rules 4 to 9 ask of a sheet beside its points: the box's least u and v, the scales, P, and
 // whether the chart is periodic and a torus band.
@@ -23,18 +23,18 @@ pub struct Frame {
 }
 
 // A torus band: kind 4 with a ring that goes around.
-fn is_band(kind: u8, rings: Rings) -> bool
+fn is_band(kind: Kind, rings: Rings) -> bool
     ensures { result ≡ band_of kind (rings_in rings.entry) }
 {
-    kind == 4 && rings.into_iter().any(|ring| points::goes_around(ring))
+    kind.is_torus() && rings.into_iter().any(|ring| points::goes_around(ring))
 }
 
 // Kinds 1, 2, or a band.
 #[tactic(auto, unfolding(crate::specs::Frame::periodic_of))]
-fn is_periodic(kind: u8, band: bool) -> bool
+fn is_periodic(kind: Kind, band: bool) -> bool
     ensures { result ≡ periodic_of kind band }
 {
-    kind == 1 || kind == 2 || band
+    kind.is_round() || band
 }
 
 // Periodic caps the u scale at TAU.
@@ -69,7 +69,7 @@ fn framed_by(periodic: bool, band: bool, points: &[Point]) -> Frame
 }
 
 // The frame of rings.
-pub(crate) fn frame_of(kind: u8, rings: Rings) -> Frame
+pub(crate) fn frame_of(kind: Kind, rings: Rings) -> Frame
     ensures { let band = band_of kind (rings_in rings.entry) in result ≡ framed (periodic_of kind band) band rings.entry.points.now }
 {
     let band = is_band(kind, rings);

@@ -9,6 +9,7 @@ use crate::framing::{Frame, check_joins, frame_of};
 use crate::prepare::prepare;
 use crate::ring_list::Rings;
 use answers::Refusal;
+use points::Phase;
 use sheet::Point;
 
 // Whether lists of so many points and so many ends are just those of the sheet.
@@ -26,7 +27,7 @@ fn is_fitting(s: &[u8], points: usize, ends: usize) -> bool
 // sheet's frame, or the first of 11 to 13 that fails.
 pub fn lay_out(
     s: &[u8],
-    phase: u32,
+    phase: Phase,
     points: &mut [Point],
     ends: &mut [usize],
 ) -> Result<Frame, Refusal>
@@ -37,7 +38,7 @@ pub fn lay_out(
     }
     prepare(s, phase, points, ends);
     let rings = Rings { points, ends };
-    let frame = frame_of(sheet::byte_at(s, 5), rings);
+    let frame = frame_of(sheet::kind_of(s), rings);
     check_joins(frame, rings)?;
     Ok(frame)
 }

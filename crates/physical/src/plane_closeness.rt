@@ -20,7 +20,7 @@ fn image(axes: Axes, p: Point) -> Place
 {
     axes.place(Point {
         u: p.u,
-        v: p.v - points::phase_angle(0),
+        v: p.v - points::phase_angle(points::Phase::from(0u32)),
     })
 }
 

@@ -11,6 +11,7 @@ use crate::images::images_wrong;
 use answers::{Answer, Refusal, Values};
 use chart::find;
 use frame::Rings;
+use points::Phase;
 use search::Candidate;
 use sheet::{MOST_POINTS, ORIGIN, Point, SMALL_POINTS};
 use space::{Place, place_at};
@@ -36,7 +37,7 @@ fn answer_at(is_close: bool, p: Place, best: Candidate) -> Answer
 // the rings' ends.
 fn image_over(
     s: &[u8],
-    phase: u32,
+    phase: Phase,
     images: &[f64],
     moved: &mut [Point],
     ends: &mut [usize],
@@ -52,7 +53,7 @@ fn image_over(
 // The same, over lists of its own, of which the first has room for N points.
 fn image_within<const N: usize>(
     s: &[u8],
-    phase: u32,
+    phase: Phase,
     images: &[f64],
     n: usize,
     count: usize,
@@ -66,7 +67,7 @@ fn image_within<const N: usize>(
 }
 
 // The last image, for the grid point that the chart chooses.
-pub fn image_pick(s: &[u8], phase: u32, images: &[f64]) -> Answer
+pub fn image_pick(s: &[u8], phase: Phase, images: &[f64]) -> Answer
     ensures { paper result ≡ image_pick_of s.now phase images.now }
 {
     frame::check(s, phase)?;
@@ -112,7 +113,8 @@ pub fn plane_pick(s: &[u8]) -> Answer
     ensures { paper result ≡ plane_pick_of s.now }
 {
     sheet::check(s)?;
-    if sheet::byte_at(s, 5) != 0 {
+    let kind = sheet::kind_of(s);
+    if !kind.is_plane() {
         return Err(Refusal::Phase);
     }
     let n = frame::point_count(s);

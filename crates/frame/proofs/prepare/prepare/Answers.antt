@@ -19,7 +19,7 @@ loop-k-init c =
     let few = blocks_most s (omega arith) in
     let all : c.into_iter-k-iterator.result.iter ≡ blocks s = ap (λ i. i.iter) c.into_iter-k-iterator.ensures.into_iter_gives ∙ c.enumerate-k-items.ensures.source ∙ c.ring_blocks.ensures in
     let first : c.into_iter-k-iterator.result.count ≡ 0 = ap (λ i. i.count) c.into_iter-k-iterator.ensures.into_iter_gives ∙ c.enumerate-k-items.ensures.count in
-    rw (all, first) ((tt, tt, inl (omega arith)), tt, omega arith, none_prepared c.byte_at-kind.result c.args.phase c.args.points.now c.args.ends.now (blocks s) (sym (count_of_blocks s) ∙ sym c.requires.0) (blocks_count s ∙ sym c.requires.1))
+    rw (all, first) ((tt, tt, inl (omega arith)), tt, omega arith, none_prepared c.kind_of-kind.result c.args.phase c.args.points.now c.args.ends.now (blocks s) (sym (count_of_blocks s) ∙ sym c.requires.0) (blocks_count s ∙ sym c.requires.1))
 
 pub slice_bounds-move_ring-end : goal.slice_bounds-move_ring-end
 slice_bounds-move_ring-end c =
@@ -36,6 +36,6 @@ loop-k-preserved c =
 pub returns : goal.returns
 returns c =
     let s = c.args.s.now in
-    let rings : map (moved_block c.byte_at-kind.result c.args.phase) (blocks s) ≡ moved_rings (sheet_of s) c.args.phase = ap (λ (k : ℕ). map (moved_block k c.args.phase) (blocks s)) c.byte_at-kind.ensures ∙ sym (sheet_moved s c.args.phase) in
+    let rings : map (moved_block c.kind_of-kind.result c.args.phase) (blocks s) ≡ moved_rings (sheet_of s) c.args.phase = ap (λ (k : ℕ). map (moved_block k c.args.phase) (blocks s)) c.kind_of-kind.ensures ∙ sym (sheet_moved s c.args.phase) in
     let all = all_prepared c.loop-k.invariant.3 c.in-None.ensures.steps.0.0 in
     (all.0 ∙ ap flatten rings, all.1 ∙ ap (ends_from 0) rings)

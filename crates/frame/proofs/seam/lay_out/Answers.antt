@@ -48,7 +48,7 @@ unfolding numbered status_of rings_in
 returns-in_err-check_joins c =
     let s = c.args.s.now in
     let fits : fitting (sheet_of s) (length c.args.points.now) (length c.args.ends.now) ≡ true = sym c.is_fitting.ensures ∙ c.if-not-is_fitting.false in
-    let same = frame_is s c.args.phase c.prepare.ensures _ c.byte_at.ensures c.frame_of-frame.ensures in
+    let same = frame_is s c.args.phase c.prepare.ensures _ c.kind_of.ensures c.frame_of-frame.ensures in
     let number = number_is s c.args.phase c.prepare.ensures same c.in_err-check_joins.ensures in
     let p = err_from_is_err_and c.from_residual.result c.from_residual.ensures.1 in
     rw (p.1, p.2) (
@@ -62,7 +62,7 @@ unfolding numbered status_of rings_in
 returns c =
     let s = c.args.s.now in
     let fits : fitting (sheet_of s) (length c.args.points.now) (length c.args.ends.now) ≡ true = sym c.is_fitting.ensures ∙ c.if-not-is_fitting.false in
-    let same = frame_is s c.args.phase c.prepare.ensures _ c.byte_at.ensures c.frame_of-frame.ensures in (
+    let same = frame_is s c.args.phase c.prepare.ensures _ c.kind_of.ensures c.frame_of-frame.ensures in (
       ap Ok same ∙ framed_ready (sheet_of s) c.args.phase fits (sym (number_is s c.args.phase c.prepare.ensures same c.in_ok-check_joins.ensures)),
       c.prepare.ensures.0 ∙ sym (laid_points_lem (sheet_of s) c.args.phase c.args.points.now fits),
       c.prepare.ensures.1 ∙ sym (laid_ends_lem (sheet_of s) c.args.phase c.args.ends.now fits),
