@@ -17,6 +17,7 @@ ghost use Rattle.triangle.specs.Lists.{triangle_lists_of};
 ghost use Rattle.capi.specs.Convention.{seen, chart_seen, image_pick_returned, plane_pick_returned};
 
 use answers::{RESULT_LENGTH, put};
+use chart::Phase;
 
 // The chart call: the status returned, the five numbers in `list`, the moved points in `points`.
 #[unsafe(no_mangle)]
@@ -31,7 +32,7 @@ pub extern "C" fn facepoint_chart(
     if list.len() != RESULT_LENGTH {
         return 1;
     }
-    put(chart::chart(sheet, phase, points), list)
+    put(chart::chart(sheet, Phase::from(phase), points), list)
 }
 
 // The image pick: the status returned, the five numbers in `list`.
@@ -44,7 +45,7 @@ pub extern "C" fn facepoint_image_pick(
 ) -> u32
     ensures { returned result list.new ≡ image_pick_returned sheet.now phase images.now list.old }
 {
-    put(picker::image_pick(sheet, phase, images), list)
+    put(picker::image_pick(sheet, Phase::from(phase), images), list)
 }
 
 // The plane pick: the status returned, the five numbers in `list`.

@@ -7,5 +7,5 @@ mod choice;
 mod grid_point;
 
 pub use call::chart;
-pub use points::Phase;
 pub use grid_point::{Found, find};
+pub use points::Phase;

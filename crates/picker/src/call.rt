@@ -89,8 +89,9 @@ fn plane_over(s: &[u8], moved: &mut [Point], ends: &mut [usize]) -> Answer
     requires { PlanePassed s.now × (length moved.old ≡ point_count (sheet_of s.now)) × (length ends.old ≡ ring_count s.now) }
     ensures { paper result ≡ plane_pick_of s.now }
 {
-    let found = find(s, 0, moved, ends)?;
-    let p = physical::place_on(s, found.point(0));
+    let phase = Phase::from(0u32);
+    let found = find(s, phase, moved, ends)?;
+    let p = physical::place_on(s, found.point(phase));
     let rings = Rings {
         points: moved,
         ends,

@@ -11,6 +11,7 @@ ghost use Rattle.std.specs.Prelude.{◌≡◌, ℕ, ◌-◌, ◌<◌, ◌≤◌,
 
 use answers::Answer;
 use cases::{Head, MOST_BYTES, MOST_NUMBERS, MOST_PLACES, RecordError, UNWRITTEN};
+use chart::Phase;
 use std::fs;
 use std::io::{self, Read};
 use std::process::ExitCode;
@@ -106,20 +107,21 @@ fn run_plate<R: Read>(rt: &impl Print, file: &mut R, plate: Plate) -> Result<(),
     let mut list = [0.0f64; MOST_PLACES];
     let mut numbers = [0u8; MOST_NUMBERS];
     let head = plate.head;
+    let phase = Phase::from(head.phase);
     let sheet = &mut sheet[..head.bytes];
     let list = &mut list[..head.places];
     cases::read_whole(file, sheet)?;
     let (answer, sum) = match Call::try_from(plate.call)? {
         Call::Chart => {
             cases::fill(list, UNWRITTEN);
-            let answer = chart::chart(sheet, head.phase, list);
+            let answer = chart::chart(sheet, phase, list);
             (answer, Some(cases::check_sum(list)))
         }
         Call::ImagePick => {
             let numbers = &mut numbers[..8 * head.places];
             cases::read_whole(file, numbers)?;
             cases::load(list, numbers);
-            (picker::image_pick(sheet, head.phase, list), None)
+            (picker::image_pick(sheet, phase, list), None)
         }
         Call::PlanePick => (picker::plane_pick(sheet), None),
     };

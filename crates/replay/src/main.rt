@@ -26,6 +26,7 @@ use answers::{Answer, IntoValues, Refusal, Values};
 use cases::{
     Head, MOST_BYTES, MOST_NUMBERS, MOST_PLACES, RecordError, UNWRITTEN, is_shown, u32_at, u64_at,
 };
+use chart::Phase;
 use std::fs;
 use std::io::{self, Read};
 use std::process::ExitCode;
@@ -248,7 +249,7 @@ fn is_run_with_front<F: Fn(&[f64], u32, &[f64]) -> Result<Answer, RecordError>>(
 fn is_picker_run(rt: &(impl Files + Print + Eprint)) -> bool {
     let chart = is_run(rt, "chart", |sheet, phase, list, numbers| {
         cases::fill(list, UNWRITTEN);
-        let answer = chart::chart(sheet, phase, list);
+        let answer = chart::chart(sheet, Phase::from(phase), list);
         let is_list_right = cases::wrong_places(list, numbers) == 0;
         Ok(Left {
             answer,
@@ -256,7 +257,7 @@ fn is_picker_run(rt: &(impl Files + Print + Eprint)) -> bool {
         })
     });
     let image_pick = is_run_with_list(rt, "image_pick", |sheet, phase, images| {
-        Ok(picker::image_pick(sheet, phase, images))
+        Ok(picker::image_pick(sheet, Phase::from(phase), images))
     });
     let plane_pick = is_run_with_list(
         rt,

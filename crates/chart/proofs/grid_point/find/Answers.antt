@@ -69,7 +69,7 @@ returns-then-best c =
     let fits = fitting z (length c.args.points.now) (length c.args.ends.now) in
     let ready = told_ready z c.args.phase fits _ c.lay_out.ensures.0 c.in_ok-frame.was in
     let laid = held z c.args.phase c.args.points.now c.args.ends.now (passed_fits z c.args.phase fits ready.0) c.lay_out.ensures.1 c.lay_out.ensures.2 in
-    let best-is : c.chosen-best.result ≡ chosen z c.args.phase = best z c.args.phase laid ready.1 (c.byte_at.ensures ∙ sym (sheet_sense c.args.s.now)) c.chosen-best.ensures in
+    let best-is : c.chosen-best.result ≡ chosen z c.args.phase = best z c.args.phase laid ready.1 (c.sense_of.ensures ∙ sym (sheet_sense c.args.s.now)) c.chosen-best.ensures in
     (ap Ok (ap₂ found ready.1 best-is) ∙ found_chosen fits z c.args.phase ready.0 (above_limit best-is c.if-best.true), c.lay_out.ensures.1, c.lay_out.ensures.2)
 
 pub returns-else-best : goal.returns-else-best
@@ -79,5 +79,5 @@ returns-else-best c =
     let fits = fitting z (length c.args.points.now) (length c.args.ends.now) in
     let ready = told_ready z c.args.phase fits _ c.lay_out.ensures.0 c.in_ok-frame.was in
     let laid = held z c.args.phase c.args.points.now c.args.ends.now (passed_fits z c.args.phase fits ready.0) c.lay_out.ensures.1 c.lay_out.ensures.2 in
-    let best-is : c.chosen-best.result ≡ chosen z c.args.phase = best z c.args.phase laid ready.1 (c.byte_at.ensures ∙ sym (sheet_sense c.args.s.now)) c.chosen-best.ensures in
+    let best-is : c.chosen-best.result ≡ chosen z c.args.phase = best z c.args.phase laid ready.1 (c.sense_of.ensures ∙ sym (sheet_sense c.args.s.now)) c.chosen-best.ensures in
     (found_14 fits z c.args.phase ready.0 (above_limit best-is c.if-best.false), c.lay_out.ensures.1, c.lay_out.ensures.2)

@@ -6,4 +6,4 @@ use Rattle.physical.proofs.plane_closeness.image.Goals as goal
 
 pub returns : goal.returns
 unfolding image_of
-returns c = rw (written_is, c.place.ensures, c.phase_angle.ensures)
+returns c = rw (written_is, c.place.ensures, c.phase_angle.ensures, c.from.ensures)

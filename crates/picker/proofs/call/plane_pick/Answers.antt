@@ -2,6 +2,9 @@
 -- then the pick in lists by size.
 use mathlib.Core.Path.{sym, ◌∙◌}
 use native.Mathlib.Omega.{arith}
+use borrow.Author.Tests.{eq-eqb, eqb-true}
+use Rattle.std.proofs.Common.{T}
+use mathlib.Core.Path.{subst}
 use Rattle.std.proofs.lemmas.Result.{err_from_is_err_and}
 use Rattle.answers.proofs.Papers.{status_ok, status_err}
 use Rattle.frame.proofs.SheetFrame.{points_most}
@@ -13,14 +16,14 @@ returns-in_err-check c =
     let p = err_from_is_err_and c.from_residual.result c.from_residual.ensures.1 in
     rw (p.1, p.2) (plane_unread c.args.s.now _ (sym (status_err _ _) ∙ c.in_err-check.ensures))
 
-pub returns-then-byte_at-ne0 : goal.returns-then-byte_at-ne0
-returns-then-byte_at-ne0 c = plane_wrong_kind c.args.s.now (sym c.in_ok-check.ensures ∙ status_ok _) (λ e. c.if-byte_at-ne0.true (c.byte_at.ensures ∙ e))
+pub returns-then-not-is_plane : goal.returns-then-not-is_plane
+returns-then-not-is_plane c = plane_wrong_kind c.args.s.now (sym c.in_ok-check.ensures ∙ status_ok _) (λ e. subst T (sym (eq-eqb _ _ (c.kind_of-kind.ensures ∙ e)) ∙ sym c.is_plane.ensures ∙ c.if-not-is_plane.true) tt)
 
 pub plane_within-requires : goal.plane_within-requires
 plane_within-requires c =
-    (planar c.args.s.now (sym c.in_ok-check.ensures ∙ status_ok _) (sym c.byte_at.ensures ∙ c.if-byte_at-ne0.false), c.point_count-n.ensures, c.byte_at-count.ensures, c.if-n-le-SMALL_POINTS.true, omega arith)
+    (planar c.args.s.now (sym c.in_ok-check.ensures ∙ status_ok _) (sym c.kind_of-kind.ensures ∙ eqb-true _ _ (sym c.is_plane.ensures ∙ c.if-not-is_plane.false)), c.point_count-n.ensures, c.byte_at-count.ensures, c.if-n-le-SMALL_POINTS.true, omega arith)
 
 pub plane_within-requires-else-n-le-SMALL_POINTS : goal.plane_within-requires-else-n-le-SMALL_POINTS
 plane_within-requires-else-n-le-SMALL_POINTS c =
     let reads = sym c.in_ok-check.ensures ∙ status_ok _ in
-    (planar c.args.s.now reads (sym c.byte_at.ensures ∙ c.if-byte_at-ne0.false), c.point_count-n.ensures, c.byte_at-count.ensures, omega (arith, c.point_count-n.ensures, points_most c.args.s.now reads), omega arith)
+    (planar c.args.s.now reads (sym c.kind_of-kind.ensures ∙ eqb-true _ _ (sym c.is_plane.ensures ∙ c.if-not-is_plane.false)), c.point_count-n.ensures, c.byte_at-count.ensures, omega (arith, c.point_count-n.ensures, points_most c.args.s.now reads), omega arith)
