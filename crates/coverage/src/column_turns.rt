@@ -4,7 +4,7 @@
 ghost use Rattle.std.specs.Prelude.{◌≡◌, ◌≤◌};
 ghost use Rattle.coverage.specs.Lines.{turn_at, Turning};
 
-use points::{column_ahead, keeps_order, part, whole_turns};
+use points::{columns_ahead, keeps_order, part, whole_turns};
 
 // The turns of a segment with the middle mid, at the columns from one up to another.
 #[derive(Clone, Copy)]
@@ -33,7 +33,7 @@ impl ColumnTurns {
 
     // Those at column i: they stay where they still serve, else they are worked out.
     pub(crate) fn bring_to(&mut self, i: u32)
-        requires { (self.old.from ≤ i) × (i ≤ 31) }
+        requires { self.old.from ≤ i }
         ensures { (self.new.period ≡ self.old.period) × (self.new.mid ≡ self.old.mid) × (self.new.from ≤ i) × (i ≤ self.new.until) }
     {
         if self.until < i {
@@ -58,11 +58,14 @@ fn turn_at(period: f64, mid: f64, i: u32) -> f64
 
 // A column from i on up to which the turns at column i serve: the last one, or one that is found by halves.
 fn turned_until(period: f64, mid: f64, i: u32, by: f64) -> u32
-    requires { (i ≤ 31) × (by ≡ turn_at period mid i) }
+    requires { by ≡ turn_at period mid i }
     ensures { (i ≤ result) × Turning period mid i result by }
 {
     if !keeps_order(period, mid) {
         return i;
     }
-    column_ahead(i, |m| by == turn_at(period, mid, m)).unwrap_or(i)
+    columns_ahead(i)
+        .into_iter()
+        .find(|m| by == turn_at(period, mid, *m))
+        .unwrap_or(i)
 }

@@ -22,4 +22,5 @@ pub mod WholeTurns
 pub mod ColumnOrder
 -- the grid's order
 pub mod GridOrder
+-- a column further on, found by halves
 pub mod Halving

@@ -1,20 +1,26 @@
-// A column of the grid further on, found by halves.
-ghost use Rattle.points.specs.Columns.{columns_ahead, FirstHeld};
+// Where a column of the grid further on is looked for: by halves.
+ghost use Rattle.std.specs.Prelude.{◌≡◌};
+ghost use Rattle.points.specs.Columns.{further, columns_ahead};
 
-// The first column at which the test holds, of the last one and those that are sixteen, eight, four, two and one
-// further than i, as far as the last.
-pub fn column_ahead<F: Fn(u32) -> bool>(i: u32, test: F) -> Option<u32>
-    requires { F.IsAlwaysCallable test }
-    ensures { FirstHeld (λ m answer. F.post test m answer) (columns_ahead i) result }
+// So many columns further than i, as far as the last.
+#[tactic(auto, unfolding(crate::specs::Columns::further))]
+fn further(i: u32, step: u32) -> u32
+    ensures { result ≡ further i step }
 {
-    let last = 31u32.saturating_sub(i);
-    for step in [last, 16, 8, 4, 2, 1] {
-        if step <= last {
-            let m = i + step;
-            if test(m) {
-                return Some(m);
-            }
-        }
-    }
-    None
+    i + step.min(31u32.saturating_sub(i))
+}
+
+// The last column, and those that are sixteen, eight, four, two and one further.
+#[tactic(auto, unfolding(crate::specs::Columns::columns_ahead))]
+pub fn columns_ahead(i: u32) -> [u32; 6]
+    ensures { result ≡ columns_ahead i }
+{
+    [
+        further(i, 31),
+        further(i, 16),
+        further(i, 8),
+        further(i, 4),
+        further(i, 2),
+        further(i, 1),
+    ]
 }

@@ -2,7 +2,8 @@
 -- and an end that is the same at two columns, and not at 0, is the same at every column between (`moved_squeeze` of the
 -- rings' laws).
 use mathlib.Core.Path.{◌≡◌, ap₂}
-use mathlib.Core.Bool.{Bool, true, not}
+use mathlib.Core.Logic.{inl, inr}
+use mathlib.Core.Bool.{true, not}
 use Prim.Native.Nat.{ℕ, ◌≤◌}
 use native.Mathlib.Omega.{arith}
 use lib.Dec.{T}
@@ -10,17 +11,14 @@ use lib.Ieee.{Float, eq, ne}
 use lib.Ieee.Fits.{and_l, and_r}
 use lib.Ieee.Positive.{positive}
 use lib.Ieee.Scale.{finite}
-use Rattle.std.proofs.Common.{Option, Some, None}
-use Rattle.std.specs.Option.{unwrap_or}
 use Rattle.leaves.specs.Constants.{greatest_finite}
 use Rattle.answers.specs.Limits.{beyond}
 use Rattle.sheet.specs.Content.{point}
 use Rattle.points.specs.Segments.{middle, Segment, segment}
-use Rattle.points.specs.Columns.{columns_ahead, FirstHeld}
 use Rattle.points.specs.Grid.{part}
 use Rattle.points.specs.Turns.{keeps_order}
 use Rattle.points.proofs.ColumnOrder.{finite_of, holds, numbers as order_numbers, part_up}
-use Rattle.points.proofs.Halving.{column_found}
+use Rattle.points.proofs.Halving.{Reached}
 use Rattle.points.proofs.WholeTurns.{moved, moved_squeeze}
 use Rattle.search.specs.Copies.{same, same_ends, regular, Serving}
 use Rattle.clearance.specs.Clearance.{shifted_to}
@@ -74,12 +72,6 @@ module _ (period : Float) (s : Segment) (reg : regular period s ≡ true) where
       (end_between s.b.u n.end i m t h k (and_r (same (at i).a.u (at t).a.u) _ w))
 
   -- up to the column that is found by halves, or to i itself
-  module _ (answers : ℕ → Bool → Type 0) (i : ℕ) (low : i ≤ 31) (same : (m : ℕ) → answers m true → same_ends (at i) (at m) ≡ true) where
-    pub served_to : (found : Option ℕ) → FirstHeld answers (columns_ahead i) found → (t : ℕ) → t ≡ unwrap_or found i → (i ≤ t) × Serving period i t s (at i)
-    served_to (Some m) h t e =
-        let there = column_found answers i m low h in
-        let up : i ≤ t = omega (arith, there.up) in
-        (up, rw e (served_between i m (same m there.held)))
-    served_to None h t e =
-        let up : i ≤ t = omega arith in
-        (up, λ m k l. let there : m ≡ i = omega arith in rw there)
+  pub served_to : (i t : ℕ) → Reached (λ m. same_ends (at i) (at m)) i t → (i ≤ t) × Serving period i t s (at i)
+  served_to i t (up, inl e) = (up, λ m k l. let there : m ≡ i = omega arith in rw there)
+  served_to i t (up, inr e) = (up, served_between i t e)

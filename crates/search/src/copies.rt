@@ -63,11 +63,14 @@ fn is_served(period: f64, copy: Segment, m: u32, s: Segment) -> bool
 
 // A column from i on up to which this copy, the one at column i, serves: the last one, or one that is found by halves.
 fn served(period: f64, i: u32, copy: Segment, s: Segment) -> u32
-    requires { (i ≤ 31) × (copy ≡ shifted_to period (part_of i) s) }
+    requires { copy ≡ shifted_to period (part_of i) s }
     ensures { (i ≤ result) × Serving period i result s copy }
 {
     if is_regular(period, s) {
-        points::column_ahead(i, |m| is_served(period, copy, m, s)).unwrap_or(i)
+        points::columns_ahead(i)
+            .into_iter()
+            .find(|m| is_served(period, copy, *m, s))
+            .unwrap_or(i)
     } else {
         i
     }
@@ -83,7 +86,7 @@ pub(crate) fn renew(
     until: &mut [u32],
     copies: &mut [Segment],
 )
-    requires { (i ≤ 31) × (length list.now ≡ length copies.old) × (length list.now ≤ length until.old) × Ready period i list.now until.old copies.old }
+    requires { (length list.now ≡ length copies.old) × (length list.now ≤ length until.old) × Ready period i list.now until.old copies.old }
     ensures { (copies.new ≡ map (shifted_to period (part_of i)) list.now) × Ready period (i + 1) list.now until.new copies.new }
 {
     for (k, s) in list.iter().enumerate() {
