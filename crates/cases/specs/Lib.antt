@@ -2,4 +2,5 @@
 pub mod BigEndian
 pub mod Lengths
 pub mod Places
+pub mod Reading
 pub mod Record

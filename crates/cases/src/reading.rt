@@ -2,6 +2,7 @@
 ghost use Rattle.std.specs.Prelude.{◌≡◌, ◌<◌, List, ℕ, Ok, IfOk, OnOk, Err, IsErrOf, is_ok, length, take};
 ghost use Rattle.std.specs.Io.{ReadsAtMost};
 ghost use Rattle.std.specs.Io.KnownBytes.{Consumes, IsAtEnd};
+ghost use Rattle.cases.specs.Reading.{Gives};
 ghost use Rattle.cases.specs.Record.{head_of};
 
 use crate::record::{HEAD_SIZE, Head, RecordError, head_of};
@@ -40,9 +41,9 @@ pub fn read_whole<R: Read>(file: &mut R, buffer: &mut [u8]) -> Result<(), Record
 // Reads the head of the next record; none where the file has ended.
 pub fn read_head<R: Read>(file: &mut R) -> Result<Option<Head>, RecordError>
     ensures ok { IfOk result (λ head. (bytes : List ℕ)
-        × Consumes (R.remaining file.old) (R.remaining file.new) bytes × (head_of bytes ≡ Ok head)) }
+        × Gives 12 (R.remaining file.old) (R.remaining file.new) bytes × (head_of bytes ≡ Ok head)) }
     ensures broken { IsErrOf result RecordError.Broken → (bytes : List ℕ)
-        × Consumes (R.remaining file.old) (R.remaining file.new) bytes × (head_of bytes ≡ Err RecordError.Broken) }
+        × Gives 12 (R.remaining file.old) (R.remaining file.new) bytes × (head_of bytes ≡ Err RecordError.Broken) }
 {
     let mut bytes = [0u8; HEAD_SIZE];
     let n = read_full(file, &mut bytes).map_err(RecordError::Io)?;

@@ -54,7 +54,9 @@ fn is_same(x: f64, y: f64) -> bool
     f64_to_bits_with_nan(x) == f64_to_bits_with_nan(y)
 }
 
-// Reads a line, and says whether the answer for its argument is its answer; of a file that has ended, nothing.
+// Reads a line, and says whether the answer for its argument is its answer; of a file that has ended, nothing. Here and
+// below, that the closure which is handed over may be called is required: no type says it, and a ghost field cannot say
+// it of a type parameter.
 fn run_line<F: Fn(f64) -> f64, R: Read>(leaf: F, file: &mut R) -> io::Result<Option<bool>>
     requires { F.IsAlwaysCallable leaf }
 {
