@@ -24,6 +24,7 @@ fn number(s: &[u8], at: usize, k: usize) -> u64
     n
 }
 
+// The same number in each of the two types that a record has.
 pub fn u32_at(s: &[u8], at: usize) -> u32
     ensures { result ≡ big s.now at 4 }
 {

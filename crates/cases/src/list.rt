@@ -26,7 +26,7 @@ pub fn load(list: &mut [f64], numbers: &[u8])
     }
 }
 
-// Whether x is a number, and has these bits.
+// Whether x is a number, and has these bits. (`==` would take -0 for +0.)
 #[tactic(auto, unfolding(crate::specs::Places::shown))]
 pub fn is_shown(x: f64, bits: u64) -> bool
     ensures { result ≡ shown x bits }

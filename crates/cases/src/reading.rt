@@ -16,7 +16,7 @@ pub fn read_full<R: Read>(file: &mut R, buffer: &mut [u8]) -> io::Result<usize>
     ensures end { IfOk result (λ n. n < length buffer.new → IsAtEnd (R.remaining file.new)) }
 {
     let mut n = 0;
-    // A turn goes on by as many bytes as the file gave.
+    // No `for`: a turn goes on by as many bytes as the file gave, and it ends where the file gives none.
     while n < buffer.len() {
         match file.read(&mut buffer[n..])? {
             0 => break,

@@ -68,6 +68,7 @@ fn run<R: Read>(rt: &impl Print, input: &mut R) -> Result<(), Failure> {
     print_line(rt, answer_to(&buffer[..n])).map_err(Failure::Output)
 }
 
+// What failed is said in the program's own words, so `main` answers no `Result`.
 fn main(rt: HostRuntime) -> ExitCode {
     match run(&rt, &mut rt.stdin()) {
         Ok(()) => ExitCode::SUCCESS,

@@ -101,7 +101,8 @@ fn next_plate<R: Read>(file: &mut R) -> Result<Option<Plate>, RecordError> {
     }))
 }
 
-// Reads a plate's sheet and images, makes its call and writes its line.
+// Reads a plate's sheet and images, makes its call and writes its line. The file says which of three calls that is, so
+// one `match` chooses. There is no heap, so the lists have the sizes of the longest, here as in replay.
 fn run_plate<R: Read>(rt: &impl Print, file: &mut R, plate: Plate) -> Result<(), RecordError> {
     let mut sheet = [0u8; MOST_BYTES];
     let mut list = [0.0f64; MOST_PLACES];
@@ -147,6 +148,7 @@ fn run_file(rt: &(impl Files + Print), name: &str) -> io::Result<()> {
     }
 }
 
+// What failed is said in the program's own words, so `main` answers no `Result`.
 fn main(rt: HostRuntime) -> ExitCode {
     let name = "plates";
     if cases::is_run(&rt, name, run_file(&rt, name)) {

@@ -116,7 +116,7 @@ pub fn normalise(least: Point, scale: Point, points: &mut [Point])
 }
 
 // Rule 5 of each point, over the front of `out`, whose tail keeps its contents; a list that is too short for them stays
-// as it is.
+// as it is. It stands beside `normalise`, which changes its own list: no one borrow is both.
 pub fn normalise_into(least: Point, scale: Point, points: &[Point], out: &mut [Point])
     ensures { out.new ≡ over (map (normal least.u least.v scale.u scale.v) points.now) out.old }
 {

@@ -299,6 +299,7 @@ fn is_after_run(rt: &(impl Files + Print + Eprint)) -> bool {
     sample_parameter && direction && triangle && point_on && cylinder_point && placed
 }
 
+// What failed is said in the program's own words, so `main` answers no `Result`.
 fn main(rt: HostRuntime) -> ExitCode {
     let picker = is_picker_run(&rt);
     let after = is_after_run(&rt);

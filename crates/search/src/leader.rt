@@ -104,7 +104,9 @@ impl Leader {
     }
 }
 
-// The whole grid of a chart that is not periodic, i from 1 to 31.
+// The whole grid of a chart that is not periodic, i from 1 to 31. Rows and columns go by their numbers, of which the
+// definitions speak. `search_periodic` goes so, too, but renews its copies first: one function for both would have to
+// lend a list out of a closure.
 fn search_plain(covered: &[bool], list: &[Segment]) -> Candidate
     ensures { result ≡ chosen_among None list.now covered.now }
 {

@@ -38,7 +38,7 @@ pub(crate) fn word(s: &[u8]) -> u32
     u32::from_be_bytes([s[0], s[1], s[2], s[3]])
 }
 
-// The f64 of these bits; -0 as +0.
+// The f64 of these bits; -0 as +0, as document 01 asks, which std's does not.
 #[tactic(auto, unfolding(crate::specs::Layout::number_of))]
 fn float(bits: u64) -> f64
     ensures { result ≡ number_of bits }

@@ -9,7 +9,7 @@ ghost use Rattle.text.specs.Digits.{digit as digit_of};
 use crate::page::put_bytes;
 use std::num::f64_to_bits_with_nan;
 
-// The ASCII code of a digit.
+// The ASCII code of a digit. (The kit's `{:X}` writes digits too, but promises nothing of them.)
 #[tactic(auto, unfolding(crate::specs::Digits::digit))]
 fn digit(d: u8) -> u8
     requires { d < 16 }

@@ -147,7 +147,8 @@ fn among(sphere: Sphere, sense: u32, arcs: [Arc; 3]) -> Result<Place, Refusal>
 }
 
 // The middle of a triangle of great-circle arcs: its sphere, the sense, and three sides. The sense is a number,
-// 0 absent, 1 forward, 2 reversed, since the call takes any and refuses one above 2.
+// 0 absent, 1 forward, 2 reversed, since the call takes any that C gives, and refuses one above 2; a sheet's `Sense` is
+// one of a byte.
 #[tactic(auto, using(answers::proofs::Calls::calls), unfolding(crate::specs::Triangle::triangle_of))]
 pub fn spherical_triangle(sphere: Sphere, sense: u32, sides: [Side; 3]) -> Result<Place, Refusal>
     ensures { position_paper result ≡ triangle_of sphere sense sides }

@@ -94,7 +94,8 @@ fn run_file<F: Fn(f64) -> f64>(rt: &(impl Files + Print), name: &str, leaf: F) -
     println!(rt; "{name}: {} vectors, {} wrong", tally.read, tally.wrong)
 }
 
-// Whether the file was run and its line written; else it says on standard error what failed.
+// Whether the file was run and its line written; else it says on standard error what failed. (replay has such a pair, of
+// another record and another line; one for both would be a public function that requires of its caller what stands here.)
 fn is_run<F: Fn(f64) -> f64>(rt: &(impl Files + Print + Eprint), name: &str, leaf: F) -> bool
     requires { F.IsAlwaysCallable leaf }
 {
@@ -129,6 +130,7 @@ fn constants_have_their_bits() -> bool
     ])
 }
 
+// What failed is said in the program's own words, so `main` answers no `Result`.
 fn main(rt: HostRuntime) -> ExitCode {
     let are_right = constants_have_their_bits();
     let root = is_run(&rt, "root", |x| leaves::root(x));
