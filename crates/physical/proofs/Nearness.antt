@@ -4,6 +4,8 @@
 use mathlib.Core.Path.{◌≡◌, refl, sym, ap, ◌∙◌}
 use mathlib.Core.Bool.{Bool, true, false, not, ◌||◌}
 use mathlib.Core.List.{List, [], ◌∷◌, map, foldl, Permᴰ}
+use Rattle.std.proofs.Common.{Option, Some, None}
+use Rattle.std.specs.Iterator.{AlwaysYields}
 use Rattle.std.specs.List.{list_any}
 use lib.Dec.{T}
 use lib.Ieee.{Float, inf, binary64, fits, is_nan, lt}
@@ -44,28 +46,62 @@ module _ (limit : Float) (p : Place) where
   near_stays : (ss : List (Between Place)) → foldl near_step true ss ≡ true
   near_stays = fold_stays near_step true (λ s. refl)
 
-  -- of a ring that begins at `first`: those left where the places after a are `rest`; `near`: whether one before was
-  -- near
-  abbrev pub near_from : Place → Bool → Place → List Place → Bool
-  near_from first near a rest = fold_rest near_step first near a rest
+-- ---- between the places that an iterator has to give
 
-  pub near_none : {ring : List Place} → ring ≡ [] → false ≡ any_near limit p false ring
-  near_none {ring} e = sym (near_fold false ring ∙ rest_none near_step false e)
+-- every run of calls from s gives these, and then `None`
+abbrev pub Gives : {S : Type 0} → (S → Option Place → S → Type 0) → S → List Place → Type 0
+Gives steps s ring = AlwaysYields steps (λ q. q) s ring
 
-  pub near_start : (first : Place) {ring rest : List Place} → ring ≡ first ∷ rest → near_from first false first rest ≡ any_near limit p false ring
-  near_start first {ring} e = rest_start near_step first false e ∙ sym (near_fold false ring)
+module _ {S : Type 0} (steps : S → Option Place → S → Type 0) {s t : S} where
+  none_left : (ring : List Place) → Gives steps s ring → steps s None t → ring ≡ []
+  none_left [] e h = refl
+  none_left (q ∷ rest) e h = absurd (e.0 t h)
 
+  one_left : {b : Place} (ring : List Place) → Gives steps s ring → steps s (Some b) t → (rest : List Place) × Gives steps t rest × (ring ≡ b ∷ rest)
+  one_left {b} [] e h = absurd (e b t h)
+  one_left {b} (q ∷ rest) e h = let (is, more) = e.1 b t h in (rest, more, ap (λ (x : Place). x ∷ rest) (sym is))
+
+-- this is the answer for the ring that s has to give
+abbrev pub IsAnswer : {S : Type 0} → Float → Place → (S → Option Place → S → Type 0) → S → Bool → Type 0
+IsAnswer limit p steps s near = (ring : List Place) → Gives steps s ring → near ≡ any_near limit p false ring
+
+-- The answer for the ring that `start` has to give is told by its segments that are left: from the place a through those
+-- that s has to give, and back to the first. `near`: whether one before was near.
+pub record IsTold {S : Type 0} (limit : Float) (p : Place) (steps : S → Option Place → S → Type 0) (start : S) (first : Place) (near : Bool) (a : Place) (s : S) : Type 0 where
+  pub by : (ring : List Place) → Gives steps start ring → (rest : List Place) × Gives steps s rest × (fold_rest (near_step limit p) first near a rest ≡ any_near limit p false ring)
+
+module _ (limit : Float) (p : Place) {S : Type 0} (steps : S → Option Place → S → Type 0) (start : S) {t : S} where
+  pub near_none : steps start None t → IsAnswer limit p steps start false
+  near_none h ring e = sym (near_fold limit p false ring ∙ rest_none (near_step limit p) false (none_left steps ring e h))
+
+  pub near_start : {first : Place} → steps start (Some first) t → IsTold limit p steps start first false first t
+  near_start {first} h = record {
+    by = λ ring e.
+        let (rest, more, is) = one_left steps ring e h in
+        (rest, more, rest_start (near_step limit p) first false is ∙ sym (near_fold limit p false ring));
+  }
+
+module _ {limit : Float} {p : Place} {S : Type 0} {steps : S → Option Place → S → Type 0} {start : S} {first a : Place} {s : S} where
   -- the next is near or not
-  pub near_next : (first a : Place) {b : Place} {rest rest' : List Place} {near whole : Bool} → rest ≡ b ∷ rest' → near ≡ is_near limit p (between a b) → near_from first false a rest ≡ whole → near_from first near b rest' ≡ whole
-  near_next first a e n w = rw n (sym (rest_step near_step first false a e) ∙ w)
+  pub near_next : {b : Place} {t : S} {near : Bool} → IsTold limit p steps start first false a s → steps s (Some b) t → near ≡ is_near limit p (between a b) → IsTold limit p steps start first near b t
+  near_next l h n = record {
+    by = λ ring e.
+        let (left, gives, w) = l.by ring e in
+        let (rest, more, is) = one_left steps left gives h in
+        (rest, more, rw n (sym (rest_step (near_step limit p) first false a is) ∙ w));
+  }
 
   -- one is near
-  pub near_found : (first b : Place) (rest : List Place) {whole : Bool} → near_from first true b rest ≡ whole → true ≡ whole
-  near_found first b rest w = sym (near_stays (segments_from first b rest)) ∙ w
+  pub near_found : IsTold limit p steps start first true a s → IsAnswer limit p steps start true
+  near_found l ring e =
+      let (rest, more, w) = l.by ring e in
+      sym (near_stays limit p (segments_from first a rest)) ∙ w
 
   -- the closing one is left
-  pub near_last : (first a : Place) {rest : List Place} {near whole : Bool} → rest ≡ [] → near ≡ is_near limit p (between a first) → near_from first false a rest ≡ whole → near ≡ whole
-  near_last first a e n w = n ∙ sym (rest_end near_step first false a e) ∙ w
+  pub near_last : {t : S} {near : Bool} → IsTold limit p steps start first false a s → steps s None t → near ≡ is_near limit p (between a first) → IsAnswer limit p steps start near
+  near_last l h n ring e =
+      let (rest, more, w) = l.by ring e in
+      n ∙ sym (rest_end (near_step limit p) first false a (none_left steps rest more h)) ∙ w
 
 -- ---- the rings, one after the other
 

@@ -8,7 +8,7 @@ ghost use Rattle.physical.specs.Stages.{any_near};
 
 use crate::deviation::least_clearance;
 use crate::near_segments::Reach;
-use space::Place;
+use space::{Place, Places};
 
 // Whether the distance from p to one of the segments of all rings' images is not above the limit. Images past
 // the list's end are none.
@@ -19,7 +19,7 @@ fn any_ring_near(s: &[u8], reach: Reach, p: Place, images: &[f64]) -> bool
     for block in sheet::ring_blocks(s) {
         let count = 3 * sheet::COEDGE_POINTS * sheet::byte_at(block, 0) as usize;
         let (ring, behind) = rest.split_at(count.min(rest.len()));
-        if reach.is_ring_near(p, ring) {
+        if reach.is_ring_near(p, Places { list: ring }) {
             return true;
         }
         rest = behind;

@@ -1,14 +1,14 @@
 // Rule 8 in space, held against a limit. A segment is told to be far by the key of two coordinates, and
 // only a near one costs roots.
-ghost use Rattle.std.specs.Prelude.{true, false, not, ◌≡◌, is_none, IfSome};
+ghost use Rattle.std.specs.Prelude.{true, false, not, ◌≡◌, List, is_none, IfSome};
 ghost use Rattle.std.specs.Float.{inf};
 ghost use Rattle.std.specs.Float.Ieee.{lt};
-ghost use Rattle.space.specs.Places.{triples};
+ghost use Rattle.std.specs.Iterator.{IsFinite, AlwaysYields};
 ghost use Rattle.points.specs.Segments.{between};
 ghost use Rattle.physical.specs.Space.{left as left_of, residual as residual_of};
 ghost use Rattle.physical.specs.Stages.{Far, is_near, any_near};
 
-use space::{Place, dot, minus, place_at};
+use space::{Place, dot, minus};
 
 // One coordinate of p - a - t x d.
 #[tactic(auto, unfolding(crate::specs::Space::left))]
@@ -90,18 +90,20 @@ impl Reach {
         leaves::hypot(leaves::hypot_of_key(key), rest.z) <= self.limit
     }
 
-    // Whether the distance from p to one of the segments of a ring's images is not above the limit.
-    pub(crate) fn is_ring_near(self, p: Place, ring: &[f64]) -> bool
-        ensures { result ≡ any_near self.limit p false (triples ring.now) }
+    // Whether the distance from p to one of the segments that join each of the places to the next, the last to the
+    // first, is not above the limit. Those after the first near segment are not asked for.
+    #[tactic(auto, using(crate::proofs::Nearness::near_start, crate::proofs::Nearness::near_next))]
+    pub(crate) fn is_ring_near<I: Iterator<Item = Place>>(self, p: Place, mut places: I) -> bool
+        requires can { I.can_next places }
+        requires ends { IsFinite (I.remaining places) }
+        ensures { (ring : List Place) → AlwaysYields I.next_gives (λ q. q) places ring
+            → result ≡ any_near self.limit p false ring }
     {
-        let count = ring.len() / 3;
-        if count == 0 {
+        let Some(first) = places.next() else {
             return false;
-        }
-        let first = place_at(ring, 0);
+        };
         let mut a = first;
-        for k in 1..count {
-            let b = place_at(ring, 3 * k);
+        for b in places {
             if self.is_near(p, a, b) {
                 return true;
             }

@@ -28,19 +28,7 @@ fn image(axes: Axes, p: Point) -> Place
 fn any_image_near(reach: Reach, p: Place, axes: Axes, ring: &[Point]) -> bool
     ensures { result ≡ any_near reach.limit p false (map (image_of axes) ring.now) }
 {
-    let Some((start, rest)) = ring.split_first() else {
-        return false;
-    };
-    let first = image(axes, *start);
-    let mut a = first;
-    for q in rest {
-        let b = image(axes, *q);
-        if reach.is_near(p, a, b) {
-            return true;
-        }
-        a = b;
-    }
-    reach.is_near(p, a, first)
+    reach.is_ring_near(p, ring.iter().map(|q| image(axes, *q)))
 }
 
 // The same of all rings.

@@ -1,15 +1,18 @@
 -- `physical::closeness::any_ring_near` says whether a segment of the images of any ring is near. The invariant: the
 -- answer for the images of the rings whose blocks are left is that for all, as no ring before has a near one. A turn
 -- takes the images of one ring, three numbers a point, and ends the loop where one is near.
-use mathlib.Core.Path.{◌≡◌, sym, ap, ◌∙◌}
+use mathlib.Core.Path.{◌≡◌, refl, sym, ap, ◌∙◌}
 use mathlib.Core.Bool.{Bool, false}
 use mathlib.Core.List.{List, ◌∷◌, map}
 use Prim.Native.Nat.{ℕ, ◌*◌, min}
 use native.Mathlib.Omega.{arith}
 use lib.Ieee.{Float}
 use lib.ListN.{length, get_or, take, drop}
+use Rattle.std.proofs.Common.{Bor}
+use Rattle.std.specs.Iterator.{YieldsFirst}
+use Rattle.std.proofs.lemmas.Iterator.Consumers.{YieldsList-from_first}
 use Rattle.std.proofs.lemmas.List.{take_min, drop_min}
-use Rattle.space.specs.Places.{triples}
+use Rattle.space.specs.Places.{triples, places_left}
 use Rattle.space.specs.declared.vectors.Place.{Place}
 use Rattle.sheet.specs.Content.{Coedge, ring_points}
 use Rattle.sheet.specs.Layout.{ring}
@@ -17,7 +20,7 @@ use Rattle.sheet.proofs.Blocks.{ring_points_length}
 use Rattle.sheet.proofs.Checked.{rings_are}
 use Rattle.physical.specs.Images.{image_numbers, ring_images}
 use Rattle.physical.specs.Stages.{any_near}
-use Rattle.physical.proofs.Nearness.{rings_near, ring_next, ring_found, ring_none}
+use Rattle.physical.proofs.Nearness.{IsAnswer, rings_near, ring_next, ring_found, ring_none}
 use Rattle.physical.proofs.closeness.any_ring_near.Goals as goal
 
 -- the images of the next ring, and those of the rings behind it
@@ -29,11 +32,12 @@ images_more {b = b} images e =
     rw (e, own)
 
 -- a turn tests the part of the images that is the next ring's
-near_more : (limit : Float) (p : Place) {bs rest : List (List ℕ)} {b : List ℕ} (images : List Float) {part behind : List Float} {near whole : Bool} (byte mid : ℕ) → bs ≡ b ∷ rest → byte ≡ get_or b 0 0 → mid ≡ min (51 * byte) (length images)
-    → part ≡ take mid images → behind ≡ drop mid images → near ≡ any_near limit p false (triples part) → rings_near limit p false (ring_images (map ring bs) images) ≡ whole → rings_near limit p near (ring_images (map ring rest) behind) ≡ whole
-near_more limit p images byte mid e told cut front back n w =
+near_more : (limit : Float) (p : Place) {bs rest : List (List ℕ)} {b : List ℕ} (images : List Float) (part : Bor (List Float)) {behind : List Float} {near whole : Bool} (byte mid : ℕ) → bs ≡ b ∷ rest → byte ≡ get_or b 0 0 → mid ≡ min (51 * byte) (length images)
+    → part.now ≡ take mid images → behind ≡ drop mid images → IsAnswer limit p (YieldsFirst places_left) (record { list = part }) near → rings_near limit p false (ring_images (map ring bs) images) ≡ whole → rings_near limit p near (ring_images (map ring rest) behind) ≡ whole
+near_more limit p images part byte mid e told cut front back n w =
     let own = cut ∙ ap (λ (m : ℕ). min (51 * m) (length images)) told in
-    rw (back, own, drop_min) (ring_next limit p (images_more images e) (n ∙ ap (λ (xs : List Float). any_near limit p false (triples xs)) (front ∙ ap (λ (m : ℕ). take m images) own ∙ take_min _ images)) w)
+    let near = n (triples part.now) (YieldsList-from_first (λ (q : Place). q) places_left _ refl).runs in
+    rw (back, own, drop_min) (ring_next limit p (images_more images e) (near ∙ ap (λ (xs : List Float). any_near limit p false (triples xs)) (front ∙ ap (λ (m : ℕ). take m images) own ∙ take_min _ images)) w)
 
 pub loop-block-init : goal.loop-block-init
 loop-block-init c =
@@ -47,12 +51,12 @@ loop-block-init c =
 pub returns-then-is_ring_near : goal.returns-then-is_ring_near
 returns-then-is_ring_near c =
     let x = c.args in
-    ring_found x.reach.limit x.p (ring_images (map ring c.next.new.self) c.split_at.result.1.now) (near_more x.reach.limit x.p c.loop-block.rest.now c.byte_at.result c.min.result c.in-Some.ensures.steps c.byte_at.ensures c.min.ensures c.split_at.ensures.front c.split_at.ensures.back (sym c.if-is_ring_near.true ∙ c.is_ring_near.ensures) c.loop-block.invariant.2)
+    ring_found x.reach.limit x.p (ring_images (map ring c.next.new.self) c.split_at.result.1.now) (near_more x.reach.limit x.p c.loop-block.rest.now c.split_at.result.0 c.byte_at.result c.min.result c.in-Some.ensures.steps c.byte_at.ensures c.min.ensures c.split_at.ensures.front c.split_at.ensures.back c.if-is_ring_near.ensures c.loop-block.invariant.2)
 
 pub loop-block-preserved : goal.loop-block-preserved
 loop-block-preserved c =
     let x = c.args in
-    (tt, tt, near_more x.reach.limit x.p c.loop-block.rest.now c.byte_at.result c.min.result c.in-Some.ensures.steps c.byte_at.ensures c.min.ensures c.split_at.ensures.front c.split_at.ensures.back (sym c.if-is_ring_near.false ∙ c.is_ring_near.ensures) c.loop-block.invariant.2)
+    (tt, tt, near_more x.reach.limit x.p c.loop-block.rest.now c.split_at.result.0 c.byte_at.result c.min.result c.in-Some.ensures.steps c.byte_at.ensures c.min.ensures c.split_at.ensures.front c.split_at.ensures.back c.if-is_ring_near.ensures c.loop-block.invariant.2)
 
 pub returns : goal.returns
 unfolding ring_images
