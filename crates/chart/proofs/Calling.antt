@@ -7,7 +7,7 @@ use Prim.Native.Nat.{ℕ, ◌*◌, ◌≤◌, ◌<◌}
 use native.Mathlib.Omega.{arith}
 use lib.Dec.{eqb}
 use lib.Ieee.{Float}
-use lib.ListN.{length, length-map}
+use lib.ListN.{length, length-map, take, replicate}
 use borrow.Author.Tests.{ltb-false, lt-ltb, le-ltb, ne_eqb, eq-eqb}
 use Rattle.std.specs.Prelude.{Result, Ok, Err}
 use Rattle.answers.specs.Answers.{paper, values_numbers}
@@ -17,18 +17,19 @@ use Rattle.answers.specs.declared.outcomes.Values.{Values}
 use Rattle.answers.specs.declared.refusal.Refusal.{Refusal}
 use Rattle.answers.specs.declared.refusal.Refusal.TheVariants.{Room}
 use Rattle.answers.proofs.FirstCheck.{Numbered, none_fails, first_passed, first_refused, first_here, first_later, append_none}
-use Rattle.answers.proofs.Over.{over_room}
+use Rattle.answers.proofs.Over.{over_room, length_front}
 use Rattle.answers.proofs.Papers.{paper_ok, paper_err, not_zero}
 use Rattle.answers.proofs.Settled.{settled_none, settled_refused}
 use Rattle.sheet.specs.Checks.{layout_checks, content_checks}
 use Rattle.sheet.specs.Content.{Point, flat}
-use Rattle.sheet.specs.Layout.{sheet_of}
-use Rattle.sheet.proofs.Checked.{sheet_numbered}
+use Rattle.sheet.specs.Layout.{ring_count, sheet_of}
+use Rattle.sheet.proofs.Checked.{checked, sheet_numbered}
 use Rattle.points.specs.Written.{written, written_point}
 use Rattle.points.proofs.Flat.{length_flat}
 use Rattle.frame.specs.Framing.{moved_rings, frame, point_count, phase_wrong}
 use Rattle.frame.specs.Seam.{fitting, phase_checks}
 use Rattle.frame.specs.declared.framing.Frame.{Frame}
+use Rattle.frame.proofs.Counting.{ring_number}
 use Rattle.frame.proofs.LaidOut.{is_fitting}
 use Rattle.frame.proofs.SheetFrame.{points_most, moved_points}
 use Rattle.search.specs.declared.candidate.Candidate.{Candidate}
@@ -95,9 +96,16 @@ module _ (s : List ℕ) (phase : ℕ) (out : List Float) where
 
 -- ---- a sheet that reads
 
--- lists for just its points and rings
-pub fits_of : (s : List ℕ) (n m : ℕ) → first (layout_checks s ++ content_checks (sheet_of s)) ≡ 0 → n ≡ point_count (sheet_of s) → m ≡ length (sheet_of s).rings → fitting (sheet_of s) n m ≡ true
-fits_of s n m reads p q = is_fitting (sheet_of s) n m p q (omega (arith, points_most s reads))
+pub rings_few : (s : List ℕ) {m : ℕ} → first (layout_checks s ++ content_checks (sheet_of s)) ≡ 0 → m ≡ ring_count s → m ≤ 16
+rings_few s reads q = omega (arith, q, (checked s reads).layout.rings_most)
+
+-- the fronts of lists with room for N points and 16 rings, cut to just its points and rings
+pub fits_of : (s : List ℕ) (N : ℕ) (x : Point) {n m : ℕ} → first (layout_checks s ++ content_checks (sheet_of s)) ≡ 0 → n ≡ point_count (sheet_of s) → m ≡ ring_count s → point_count (sheet_of s) ≤ N
+    → fitting (sheet_of s) (length (take n (replicate N x))) (length {A = ℕ} (take m (replicate 16 0))) ≡ true
+fits_of s N x {n} {m} reads p q h =
+    let points = length_front n N x (omega (arith, p, h)) ∙ p in
+    let rings = length_front {A = ℕ} m 16 0 (rings_few s reads q) ∙ q ∙ sym (ring_number s) in
+    is_fitting (sheet_of s) _ _ points rings (omega (arith, points, points_most s reads))
 
 -- ---- a call that passes the checks down to 9
 

@@ -11,6 +11,15 @@ use points::Segment;
 use search::Candidate;
 use sheet::{MOST_POINTS, ORIGIN, Point, SMALL_POINTS, Sense};
 
+// The rings of a sheet: nothing lies between them, and neither they nor their points are more than a sheet can have.
+#[derive(Clone, Copy)]
+pub(crate) struct SheetRings<'a> {
+    pub rings: Rings<'a>,
+    ghost packed: { Packed rings.ends.now rings.points.now },
+    ghost points_bound: { length rings.points.now ≤ 2176 },
+    ghost ends_bound: { length rings.ends.now ≤ 256 },
+}
+
 // P where the chart is periodic.
 fn period_of(f: Frame) -> Option<f64>
     ensures { result ≡ period_of f }
@@ -34,10 +43,11 @@ fn lay_rings(period: Option<f64>, rings: Rings, list: &mut [Segment]) -> usize
 }
 
 // The grid point chosen from the normalised rings. `list` has room for their segments.
-fn chosen_from(f: Frame, sense: Sense, rings: Rings, list: &mut [Segment]) -> Candidate
-    requires { (length (flatten (rings_in rings)) ≤ length list.old) × (length list.old ≤ 2176) × (length rings.points.now ≤ 2176) × (length rings.ends.now ≤ 256) }
-    ensures { result ≡ candidate f sense (rings_in rings.entry) }
+fn chosen_from(f: Frame, sense: Sense, normalised: SheetRings, list: &mut [Segment]) -> Candidate
+    requires { (length (flatten (rings_in normalised.rings)) ≤ length list.old) × (length list.old ≤ 2176) }
+    ensures { result ≡ candidate f sense (rings_in normalised.entry.rings) }
 {
+    let rings = normalised.rings;
     let mut covered = [false; 961];
     coverage::cover(f, sense, rings, &mut covered);
     let period = period_of(f);
@@ -49,40 +59,39 @@ fn chosen_from(f: Frame, sense: Sense, rings: Rings, list: &mut [Segment]) -> Ca
 fn chosen_over(
     f: Frame,
     sense: Sense,
-    rings: Rings,
+    moved: SheetRings,
     normal: &mut [Point],
     list: &mut [Segment],
 ) -> Candidate
-    requires { Packed rings.ends.now rings.points.now × (length rings.points.now ≡ length normal.old) × (length rings.points.now ≤ length list.old) × (length list.old ≤ 2176) × (length rings.ends.now ≤ 256) }
-    ensures { result ≡ candidate f sense (normalised_by f (rings_in rings.entry)) }
+    requires { (length moved.rings.points.now ≡ length normal.old) × (length moved.rings.points.now ≤ length list.old) × (length list.old ≤ 2176) }
+    ensures { result ≡ candidate f sense (normalised_by f (rings_in moved.entry.rings)) }
 {
-    points::normalise_into(f.least, f.scale, rings.points, normal);
-    let normalised = Rings {
+    points::normalise_into(f.least, f.scale, moved.rings.points, normal);
+    let rings = Rings {
         points: normal,
-        ends: rings.ends,
+        ends: moved.rings.ends,
     };
-    chosen_from(f, sense, normalised, list)
+    chosen_from(f, sense, SheetRings { rings }, list)
 }
 
 // The same, over lists of its own that have room for N points and as many segments.
-fn chosen_within<const N: usize>(f: Frame, sense: Sense, rings: Rings) -> Candidate
-    requires { Packed rings.ends.now rings.points.now × (length rings.points.now ≤ N) × (N ≤ 2176) × (length rings.ends.now ≤ 256) }
-    ensures { result ≡ candidate f sense (normalised_by f (rings_in rings.entry)) }
+fn chosen_within<const N: usize>(f: Frame, sense: Sense, moved: SheetRings) -> Candidate
+    requires { (length moved.rings.points.now ≤ N) × (N ≤ 2176) }
+    ensures { result ≡ candidate f sense (normalised_by f (rings_in moved.entry.rings)) }
 {
     let mut normal = [ORIGIN; N];
     let mut list = [NO_SEGMENT; N];
-    let n = rings.points.len();
-    chosen_over(f, sense, rings, &mut normal[..n], &mut list)
+    let n = moved.rings.points.len();
+    chosen_over(f, sense, moved, &mut normal[..n], &mut list)
 }
 
 // The same, by the number of points.
-pub(crate) fn chosen(f: Frame, sense: Sense, rings: Rings) -> Candidate
-    requires { Packed rings.ends.now rings.points.now × (length rings.points.now ≤ 2176) × (length rings.ends.now ≤ 256) }
-    ensures { result ≡ candidate f sense (normalised_by f (rings_in rings.entry)) }
+pub(crate) fn chosen(f: Frame, sense: Sense, moved: SheetRings) -> Candidate
+    ensures { result ≡ candidate f sense (normalised_by f (rings_in moved.entry.rings)) }
 {
-    if rings.points.len() <= SMALL_POINTS {
-        chosen_within::<SMALL_POINTS>(f, sense, rings)
+    if moved.rings.points.len() <= SMALL_POINTS {
+        chosen_within::<SMALL_POINTS>(f, sense, moved)
     } else {
-        chosen_within::<MOST_POINTS>(f, sense, rings)
+        chosen_within::<MOST_POINTS>(f, sense, moved)
     }
 }

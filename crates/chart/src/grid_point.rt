@@ -6,7 +6,7 @@ ghost use Rattle.frame.specs.Seam.{fitting, laid_points, laid_ends};
 ghost use Rattle.chart.specs.Chart.{answered};
 ghost use Rattle.chart.specs.Found.{found_of};
 
-use crate::choice::chosen;
+use crate::choice::{SheetRings, chosen};
 use answers::Refusal;
 use frame::{Frame, Rings};
 use leaves::constants::CLEARANCE_LIMIT;
@@ -46,7 +46,8 @@ pub fn find(
     ensures { (numbered result ≡ found_of (fitting (sheet_of s.now) (length points.old) (length ends.old)) (sheet_of s.now) phase) × (points.new ≡ laid_points (fitting (sheet_of s.now) (length points.old) (length ends.old)) (sheet_of s.now) phase points.old) × (ends.new ≡ laid_ends (fitting (sheet_of s.now) (length points.old) (length ends.old)) (sheet_of s.now) phase ends.old) }
 {
     let frame = frame::lay_out(s, phase, points, ends)?;
-    let best = chosen(frame, sheet::sense_of(s), Rings { points, ends });
+    let rings = Rings { points, ends };
+    let best = chosen(frame, sheet::sense_of(s), SheetRings { rings });
     if CLEARANCE_LIMIT < best.clearance {
         Ok(Found { frame, best })
     } else {

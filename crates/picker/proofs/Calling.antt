@@ -1,7 +1,7 @@
 -- The picks from their checks to their answers. Both tables are one: the sheet's rows, rows of the pick's own, the
 -- chart's 11 to 14, and 15. Where all down to 14 pass, `closing` settles 15 and the answer.
 use mathlib.Core.Bool.{Bool, true, false, not, cond}
-use mathlib.Core.Path.{◌≡◌, sym, ap, ap₂, ◌∙◌}
+use mathlib.Core.Path.{◌≡◌, sym, ap, ◌∙◌}
 use native.Mathlib.Omega.{arith}
 use lib.Dec.{eqb}
 use lib.Ieee.{Float}
@@ -200,15 +200,25 @@ module _ {s : List ℕ} (p : PlanePassed s) where
   row_passes : first (plane_rows (sheet_of s)) ≡ 0
   row_passes = first_none (plane_rows (sheet_of s)) (p.plane, tt)
 
-  pub plane_refused : (r : Refusal) → number_of r ≡ first (frame_checks (sheet_of s) 0) → Picked (Err r) (plane_pick_of s)
-  plane_refused r e = picked_on s (Err r) (pick_uncharted s (plane_rows (sheet_of s)) 0 (at_chosen s) (near_chosen s) p.reads (plane_own s) row_passes r e)
+  -- the code's phase is 0
+  module _ {phase : ℕ} (zero : phase ≡ 0) where
+    pub plane_refused : (r : Refusal) → number_of r ≡ first (frame_checks (sheet_of s) phase) → Picked (Err r) (plane_pick_of s)
+    plane_refused r e =
+        picked_on s (Err r)
+        (pick_uncharted s (plane_rows (sheet_of s)) 0 (at_chosen s) (near_chosen s) p.reads (plane_own s) row_passes r (e ∙ ap (λ (n : ℕ). first (frame_checks (sheet_of s) n)) zero))
 
-  -- the grid point was found in this frame, and the rings that were laid out are the sheet's
-  pub plane_answered : {close : Bool} {q : Place} {c : Candidate} {f : Frame} {u v : Float} {rings : List (List Point)} (r : Result Values Refusal) → first (frame_checks (sheet_of s) 0) ≡ 0
-      → f ≡ frame (sheet_of s) 0 → c ≡ chosen (sheet_of s) 0 → rings ≡ moved_rings (sheet_of s) 0 → u ≡ (answered f 0 c).x → v ≡ (answered f 0 c).y
-      → q ≡ on_plane (numbers 9 (drop 8 s)) (point u v) → close ≡ too_close (sheet_of s) q (plane_images_of (numbers 9 (drop 8 s)) rings) → Picked r (closing close q c) → Picked r (plane_pick_of s)
-  unfolding plane_images
-  plane_answered {close} {q} {c} {f} {u} {v} {rings} r passes e d g eu ev here near z =
-      let at : q ≡ at_chosen s = here ∙ (λ j. on_plane (plane_numbers j) (point ((eu ∙ ap₂ (λ (x : Frame) (y : Candidate). (answered x 0 y).x) e d) j) ((ev ∙ ap₂ (λ (x : Frame) (y : Candidate). (answered x 0 y).y) e d) j))) in
-      let close-is : close ≡ near_chosen s = near ∙ (λ j. too_close (sheet_of s) (at j) (plane_images_of (plane_numbers j) (g j))) in
-      picked_on s r (z ∙ (λ j. closing (close-is j) (at j) (d j)) ∙ pick_closed s (plane_rows (sheet_of s)) 0 (at_chosen s) (near_chosen s) p.reads (plane_own s) row_passes passes)
+    -- the grid point was found in this frame, and the rings that were laid out are the sheet's
+    pub plane_answered : {close : Bool} {q : Place} {c : Candidate} {f : Frame} {u v : Float} {rings : List (List Point)} (r : Result Values Refusal) → first (frame_checks (sheet_of s) phase) ≡ 0
+        → f ≡ frame (sheet_of s) phase → c ≡ chosen (sheet_of s) phase → rings ≡ moved_rings (sheet_of s) phase → u ≡ (answered f phase c).x → v ≡ (answered f phase c).y
+        → q ≡ on_plane (numbers 9 (drop 8 s)) (point u v) → close ≡ too_close (sheet_of s) q (plane_images_of (numbers 9 (drop 8 s)) rings) → Picked r (closing close q c) → Picked r (plane_pick_of s)
+    unfolding plane_images
+    plane_answered {close} {q} {c} {f} {u} {v} {rings} r passes e d g eu ev here near z =
+        let framed = e ∙ ap (frame (sheet_of s)) zero in
+        let best = d ∙ ap (chosen (sheet_of s)) zero in
+        let moved = g ∙ ap (moved_rings (sheet_of s)) zero in
+        let at : q ≡ at_chosen s = here ∙ (λ j. on_plane (plane_numbers j) (point ((eu ∙ (λ i. (answered (framed i) (zero i) (best i)).x)) j) ((ev ∙ (λ i. (answered (framed i) (zero i) (best i)).y)) j))) in
+        let close-is : close ≡ near_chosen s = near ∙ (λ j. too_close (sheet_of s) (at j) (plane_images_of (plane_numbers j) (moved j))) in
+        picked_on s r
+        (z
+        ∙ (λ j. closing (close-is j) (at j) (best j))
+        ∙ pick_closed s (plane_rows (sheet_of s)) 0 (at_chosen s) (near_chosen s) p.reads (plane_own s) row_passes (ap (λ (n : ℕ). first (frame_checks (sheet_of s) n)) (sym zero) ∙ passes))

@@ -1,7 +1,7 @@
 // Image pick and plane pick.
-ghost use Rattle.std.specs.Prelude.{◌≡◌, ◌*◌, ◌≤◌, length};
+ghost use Rattle.std.specs.Prelude.{◌≡◌, ◌≤◌};
 ghost use Rattle.answers.specs.Answers.{paper};
-ghost use Rattle.sheet.specs.Layout.{ring_count, sheet_of};
+ghost use Rattle.sheet.specs.Layout.{sheet_of};
 ghost use Rattle.frame.specs.Framing.{point_count};
 ghost use Rattle.picker.specs.ImagePick.{image_pick_of};
 ghost use Rattle.picker.specs.PlanePick.{plane_pick_of};
@@ -13,7 +13,7 @@ use chart::find;
 use frame::Rings;
 use points::Phase;
 use search::Candidate;
-use sheet::{MOST_POINTS, ORIGIN, Point, SMALL_POINTS};
+use sheet::{MOST_POINTS, ORIGIN, SMALL_POINTS};
 use space::{Place, place_at};
 
 // The answer for the point p of the chosen grid point, and 15 where it is too close.
@@ -33,37 +33,19 @@ fn answer_at(is_close: bool, p: Place, best: Candidate) -> Answer
     }
 }
 
-// Image pick of what passes the checks down to 10. `moved` has room for just the moved points, and `ends` for
-// the rings' ends.
-fn image_over(
-    s: &[u8],
-    phase: Phase,
-    images: &[f64],
-    moved: &mut [Point],
-    ends: &mut [usize],
-) -> Answer
-    requires { ImagePassed s.now phase images.now × (length moved.old ≡ point_count (sheet_of s.now)) × (length ends.old ≡ ring_count s.now) }
+// Image pick of what passes the checks down to 10, over lists of its own, of which the first has room for N points.
+// A type cannot say that N is room enough, so each call at a size says it.
+fn image_within<const N: usize>(s: &[u8], phase: Phase, images: &[f64]) -> Answer
+    requires { ImagePassed s.now phase images.now × (point_count (sheet_of s.now) ≤ N) × (N ≤ 2176) }
     ensures { paper result ≡ image_pick_of s.now phase images.now }
 {
+    let mut moved_room = [ORIGIN; N];
+    let mut ends_room = [0usize; sheet::MOST_RINGS];
+    let moved = &mut moved_room[..frame::point_count(s)];
+    let ends = &mut ends_room[..sheet::byte_at(s, 7) as usize];
     let found = find(s, phase, moved, ends)?;
     let last = place_at(images, images.len() - 3);
     answer_at(physical::too_close(s, last, images), last, found.best)
-}
-
-// The same, over lists of its own, of which the first has room for N points.
-fn image_within<const N: usize>(
-    s: &[u8],
-    phase: Phase,
-    images: &[f64],
-    n: usize,
-    count: usize,
-) -> Answer
-    requires { ImagePassed s.now phase images.now × (n ≡ point_count (sheet_of s.now)) × (count ≡ ring_count s.now) × (n ≤ N) × (N ≤ 2176) }
-    ensures { paper result ≡ image_pick_of s.now phase images.now }
-{
-    let mut moved = [ORIGIN; N];
-    let mut ends = [0usize; sheet::MOST_RINGS];
-    image_over(s, phase, images, &mut moved[..n], &mut ends[..count])
 }
 
 // The last image, for the grid point that the chart chooses.
@@ -74,21 +56,22 @@ pub fn image_pick(s: &[u8], phase: Phase, images: &[f64]) -> Answer
     if images_wrong(s, images) {
         return Err(Refusal::Images);
     }
-    let n = frame::point_count(s);
-    let count = sheet::byte_at(s, 7) as usize;
-    if n <= SMALL_POINTS {
-        image_within::<SMALL_POINTS>(s, phase, images, n, count)
+    if frame::point_count(s) <= SMALL_POINTS {
+        image_within::<SMALL_POINTS>(s, phase, images)
     } else {
-        image_within::<MOST_POINTS>(s, phase, images, n, count)
+        image_within::<MOST_POINTS>(s, phase, images)
     }
 }
 
-// Plane pick of what passes the checks down to 8. `moved` has room for just the moved points, and `ends` for
-// the rings' ends.
-fn plane_over(s: &[u8], moved: &mut [Point], ends: &mut [usize]) -> Answer
-    requires { PlanePassed s.now × (length moved.old ≡ point_count (sheet_of s.now)) × (length ends.old ≡ ring_count s.now) }
+// Plane pick of what passes the checks down to 8, over lists of its own, of which the first has room for N points.
+fn plane_within<const N: usize>(s: &[u8]) -> Answer
+    requires { PlanePassed s.now × (point_count (sheet_of s.now) ≤ N) × (N ≤ 2176) }
     ensures { paper result ≡ plane_pick_of s.now }
 {
+    let mut moved_room = [ORIGIN; N];
+    let mut ends_room = [0usize; sheet::MOST_RINGS];
+    let moved = &mut moved_room[..frame::point_count(s)];
+    let ends = &mut ends_room[..sheet::byte_at(s, 7) as usize];
     let phase = Phase::from(0u32);
     let found = find(s, phase, moved, ends)?;
     let p = physical::place_on(s, found.point(phase));
@@ -97,16 +80,6 @@ fn plane_over(s: &[u8], moved: &mut [Point], ends: &mut [usize]) -> Answer
         ends,
     };
     answer_at(physical::is_plane_close(s, p, rings), p, found.best)
-}
-
-// The same, over lists of its own, of which the first has room for N points.
-fn plane_within<const N: usize>(s: &[u8], n: usize, count: usize) -> Answer
-    requires { PlanePassed s.now × (n ≡ point_count (sheet_of s.now)) × (count ≡ ring_count s.now) × (n ≤ N) × (N ≤ 2176) }
-    ensures { paper result ≡ plane_pick_of s.now }
-{
-    let mut moved = [ORIGIN; N];
-    let mut ends = [0usize; sheet::MOST_RINGS];
-    plane_over(s, &mut moved[..n], &mut ends[..count])
 }
 
 // The place on the sheet's plane of the grid point that the chart chooses.
@@ -118,11 +91,9 @@ pub fn plane_pick(s: &[u8]) -> Answer
     if !kind.is_plane() {
         return Err(Refusal::Phase);
     }
-    let n = frame::point_count(s);
-    let count = sheet::byte_at(s, 7) as usize;
-    if n <= SMALL_POINTS {
-        plane_within::<SMALL_POINTS>(s, n, count)
+    if frame::point_count(s) <= SMALL_POINTS {
+        plane_within::<SMALL_POINTS>(s)
     } else {
-        plane_within::<MOST_POINTS>(s, n, count)
+        plane_within::<MOST_POINTS>(s)
     }
 }

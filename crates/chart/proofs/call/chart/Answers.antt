@@ -21,14 +21,14 @@ returns-then-points-n c = call_no_room c.args.s.now c.args.phase c.args.points.n
 pub chart_within-requires : goal.chart_within-requires
 unfolding status_of
 chart_within-requires c =
-    (call_passes c.args.s.now c.args.phase c.args.points.now (sym c.in_ok-check.ensures) (omega (arith, c.point_count-n.ensures, c.if-points-n.false)), c.point_count-n.ensures, c.byte_at-count.ensures, c.if-n-le-SMALL_POINTS.true, omega arith)
+    (call_passes c.args.s.now c.args.phase c.args.points.now (sym c.in_ok-check.ensures) (omega (arith, c.point_count-n.ensures, c.if-points-n.false)), omega (arith, c.point_count-n.ensures, c.if-n-le-SMALL_POINTS.true), omega arith)
 
 pub chart_within-requires-else-n-le-SMALL_POINTS : goal.chart_within-requires-else-n-le-SMALL_POINTS
 unfolding status_of
 chart_within-requires-else-n-le-SMALL_POINTS c =
     let passes = sym c.in_ok-check.ensures in
     let most = points_most c.args.s.now (reads_of c.args.s.now c.args.phase passes) in
-    (call_passes c.args.s.now c.args.phase c.args.points.now passes (omega (arith, c.point_count-n.ensures, c.if-points-n.false)), c.point_count-n.ensures, c.byte_at-count.ensures, omega (arith, c.point_count-n.ensures, most), omega arith)
+    (call_passes c.args.s.now c.args.phase c.args.points.now passes (omega (arith, c.point_count-n.ensures, c.if-points-n.false)), most, omega arith)
 
 pub overflow_mul-n : goal.overflow_mul-n
 unfolding status_of

@@ -43,15 +43,19 @@ best z phase h e g k =
     ∙ (λ i. candidate (e i) (g i) (normalised_by (e i) ((ap₂ (rings_from 0) h.ends_are h.points_are ∙ rings_are (moved_rings z phase)) i)))
     ∙ sym (chosen_in z phase)
 
-pub chosen-best-requires : goal.chosen-best-requires
-chosen-best-requires c =
+pub invariant_of-chosen : goal.invariant_of-chosen
+invariant_of-chosen c =
     let z = sheet_of c.args.s.now in
     let fits = fitting z (length c.args.points.now) (length c.args.ends.now) in
     let ready = told_ready z c.args.phase fits _ c.lay_out.ensures.0 c.in_ok-frame.was in
     let laid = held z c.args.phase c.args.points.now c.args.ends.now (passed_fits z c.args.phase fits ready.0) c.lay_out.ensures.1 c.lay_out.ensures.2 in
     let size = fitting_is z (length c.args.points.now) (length c.args.ends.now) (passed_fits z c.args.phase fits ready.0) in
     let kept = c.lay_out.auto in
-    (rw (laid.points_are, laid.ends_are) (packed _), omega (arith, kept.points, size.most), omega (arith, kept.ends, size.ends_are, ring_number c.args.s.now, c.type_inv.s 7))
+    record {
+      packed = rw (laid.points_are, laid.ends_are) (packed _);
+      points_bound = omega (arith, kept.points, size.most);
+      ends_bound = omega (arith, kept.ends, size.ends_are, ring_number c.args.s.now, c.type_inv.s 7);
+    }
 
 pub returns-in_err-frame : goal.returns-in_err-frame
 unfolding numbered

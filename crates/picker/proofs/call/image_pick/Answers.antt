@@ -22,9 +22,9 @@ returns-then-images_wrong c = image_wrong c.args.s.now c.args.phase c.args.image
 
 pub image_within-requires : goal.image_within-requires
 image_within-requires c =
-    (record { passes = sym c.in_ok-check.ensures ∙ status_ok _; images_right = sym c.images_wrong.ensures ∙ c.if-images_wrong.false }, c.point_count-n.ensures, c.byte_at-count.ensures, c.if-n-le-SMALL_POINTS.true, omega arith)
+    (record { passes = sym c.in_ok-check.ensures ∙ status_ok _; images_right = sym c.images_wrong.ensures ∙ c.if-images_wrong.false }, omega (arith, c.point_count.ensures, c.if-point_count-le-SMALL_POINTS.true), omega arith)
 
-pub image_within-requires-else-n-le-SMALL_POINTS : goal.image_within-requires-else-n-le-SMALL_POINTS
-image_within-requires-else-n-le-SMALL_POINTS c =
+pub image_within-requires-else-point_count-le-SMALL_POINTS : goal.image_within-requires-else-point_count-le-SMALL_POINTS
+image_within-requires-else-point_count-le-SMALL_POINTS c =
     let most = points_most c.args.s.now (reads_of c.args.s.now c.args.phase (sym c.in_ok-check.ensures ∙ status_ok _)) in
-    (record { passes = sym c.in_ok-check.ensures ∙ status_ok _; images_right = sym c.images_wrong.ensures ∙ c.if-images_wrong.false }, c.point_count-n.ensures, c.byte_at-count.ensures, omega (arith, c.point_count-n.ensures, most), omega arith)
+    (record { passes = sym c.in_ok-check.ensures ∙ status_ok _; images_right = sym c.images_wrong.ensures ∙ c.if-images_wrong.false }, most, omega arith)

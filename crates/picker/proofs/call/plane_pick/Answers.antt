@@ -21,9 +21,9 @@ returns-then-not-is_plane c = plane_wrong_kind c.args.s.now (sym c.in_ok-check.e
 
 pub plane_within-requires : goal.plane_within-requires
 plane_within-requires c =
-    (planar c.args.s.now (sym c.in_ok-check.ensures ∙ status_ok _) (sym c.kind_of-kind.ensures ∙ eqb-true _ _ (sym c.is_plane.ensures ∙ c.if-not-is_plane.false)), c.point_count-n.ensures, c.byte_at-count.ensures, c.if-n-le-SMALL_POINTS.true, omega arith)
+    (planar c.args.s.now (sym c.in_ok-check.ensures ∙ status_ok _) (sym c.kind_of-kind.ensures ∙ eqb-true _ _ (sym c.is_plane.ensures ∙ c.if-not-is_plane.false)), omega (arith, c.point_count.ensures, c.if-point_count-le-SMALL_POINTS.true), omega arith)
 
-pub plane_within-requires-else-n-le-SMALL_POINTS : goal.plane_within-requires-else-n-le-SMALL_POINTS
-plane_within-requires-else-n-le-SMALL_POINTS c =
+pub plane_within-requires-else-point_count-le-SMALL_POINTS : goal.plane_within-requires-else-point_count-le-SMALL_POINTS
+plane_within-requires-else-point_count-le-SMALL_POINTS c =
     let reads = sym c.in_ok-check.ensures ∙ status_ok _ in
-    (planar c.args.s.now reads (sym c.kind_of-kind.ensures ∙ eqb-true _ _ (sym c.is_plane.ensures ∙ c.if-not-is_plane.false)), c.point_count-n.ensures, c.byte_at-count.ensures, omega (arith, c.point_count-n.ensures, points_most c.args.s.now reads), omega arith)
+    (planar c.args.s.now reads (sym c.kind_of-kind.ensures ∙ eqb-true _ _ (sym c.is_plane.ensures ∙ c.if-not-is_plane.false)), points_most c.args.s.now reads, omega arith)

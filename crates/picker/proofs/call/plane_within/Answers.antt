@@ -1,18 +1,37 @@
--- `picker::call::plane_within` meets its contract: its lists have room for the points and for the rings' ends.
-use mathlib.Core.Path.{sym, ◌∙◌}
-use Prim.Native.Nat.{◌≤◌}
-use native.Mathlib.Omega.{arith}
+-- `picker::call::plane_within` meets its contract: its lists have room for the points and for the rings' ends; what is
+-- refused on the way to the grid point is the pick's answer; where it is found, 15 and its place on the plane are.
+use mathlib.Core.Path.{sym, ap, ap₂, ◌∙◌}
+use Rattle.std.proofs.lemmas.Result.{err_from_is_err_and}
 use Rattle.answers.proofs.Over.{length_front}
-use Rattle.sheet.proofs.Checked.{checked}
+use Rattle.sheet.specs.Layout.{sheet_of}
+use Rattle.frame.specs.Framing.{moved_rings}
+use Rattle.frame.specs.Parts.{rings_from}
+use Rattle.frame.proofs.LaidOut.{laid_points_lem, laid_ends_lem}
+use Rattle.frame.proofs.Parting.{rings_are, rings_in_is}
+use Rattle.chart.specs.declared.grid_point.Found.{Found}
+use Rattle.chart.proofs.Calling.{rings_few, fits_of}
+use Rattle.chart.proofs.Finding.{told_refused, told_chosen}
+use Rattle.picker.proofs.Calling.{plane_refused, plane_answered}
 use Rattle.picker.proofs.call.plane_within.Goals as goal
 
+pub slice_bounds-ends_room-end : goal.slice_bounds-ends_room-end
+slice_bounds-ends_room-end g c = rings_few c.args.s.now c.requires.0.reads c.byte_at.ensures
+
 pub slice_bounds-ends-end : goal.slice_bounds-ends-end
-slice_bounds-ends-end g c = omega (arith, c.requires.2, (checked c.args.s.now c.requires.0.reads).layout.rings_most)
+slice_bounds-ends-end g c = sym (length_front _ 16 0 (rings_few c.args.s.now c.requires.0.reads c.byte_at.ensures))
 
-pub slice_bounds-plane_over-end-2 : goal.slice_bounds-plane_over-end-2
-slice_bounds-plane_over-end-2 g c = sym (length_front c.args.count 16 _ (omega (arith, c.requires.2, (checked c.args.s.now c.requires.0.reads).layout.rings_most)))
+pub returns-in_err-found : goal.returns-in_err-found
+returns-in_err-found g c =
+    let s = c.args.s.now in
+    let fit = fits_of s g.row.N _ c.requires.0.reads c.point_count.ensures c.byte_at.ensures c.requires.1 in
+    let p = err_from_is_err_and c.from_residual.result c.from_residual.ensures.1 in
+    rw (p.1, p.2) (plane_refused c.requires.0 c.from-phase.ensures _ (told_refused _ (sheet_of s) _ _ fit c.find.ensures.0 c.in_err-found.was))
 
-pub plane_over-requires : goal.plane_over-requires
-plane_over-requires g c =
-    let rings_of_lem : c.args.count ≤ 16 = omega (arith, c.requires.2, (checked c.args.s.now c.requires.0.reads).layout.rings_most) in
-    (c.requires.0, length_front _ _ _ c.requires.3 ∙ c.requires.1, length_front _ _ _ rings_of_lem ∙ c.requires.2)
+pub returns : goal.returns
+returns g c =
+    let s = c.args.s.now in
+    let z = sheet_of s in
+    let fit = fits_of s g.row.N _ c.requires.0.reads c.point_count.ensures c.byte_at.ensures c.requires.1 in
+    let t = told_chosen _ z _ _ fit c.find.ensures.0 c.in_ok-found.was in
+    let rings = rings_in_is _ ∙ ap₂ (rings_from 0) (c.find.ensures.2 ∙ laid_ends_lem z _ _ fit) (c.find.ensures.1 ∙ laid_points_lem z _ _ fit) ∙ rings_are (moved_rings z _) in
+    plane_answered c.requires.0 c.from-phase.ensures c.answer_at.result t.0 (ap (λ (x : Found). x.frame) t.1) (ap (λ (x : Found). x.best) t.1) rings c.point.ensures.0 c.point.ensures.1 c.place_on-p.ensures c.is_plane_close.ensures c.answer_at.ensures
