@@ -6,6 +6,7 @@ import collections, glob, re
 facts = collections.defaultdict(set)
 for path in sorted(glob.glob("crates/*/src/*.rt")):
     text = re.sub(r"//[^\n]*", "", open(path).read())
+    text = re.sub(r"\[([\w\[\]]+); \w+\]", r"[\1]", text)  # an array's length is no end of a signature
     for f in re.finditer(r"fn (\w+)[^;{]*?\)(?P<rest>.*?)\n\s*\{\n", text, re.S):
         for clause in re.finditer(r"(?:requires|ensures)\s*(?:\w+\s*)?\{(.*?)\}\s*(?=requires|ensures|$)", f["rest"], re.S):
             for fact in clause[1].split("×"):

@@ -1,8 +1,8 @@
 -- Rings that stand one behind the other in one list of points, normalised into a list of the same length: they are the
 -- normalised rings, end where they did, and have nothing between them.
-use mathlib.Core.List.{List, [], ◌∷◌, map, flatten}
-use mathlib.Core.Path.{◌≡◌, refl, sym, ap, ◌∙◌}
-use Prim.Native.Nat.{ℕ, ◌+◌}
+use mathlib.Core.List.{List, map, flatten}
+use mathlib.Core.Path.{◌≡◌, sym, ap, ◌∙◌}
+use Prim.Native.Nat.{ℕ}
 use lib.ListN.{length, length-map}
 use Rattle.sheet.specs.Content.{Point}
 use Rattle.answers.specs.Lists.{over}
@@ -10,17 +10,11 @@ use Rattle.answers.proofs.Over.{over_all}
 use Rattle.points.specs.Normalise.{normal as normal_of}
 use Rattle.frame.specs.Parts.{ends_from, rings_from, Packed}
 use Rattle.frame.specs.declared.framing.Frame.{Frame}
-use Rattle.frame.proofs.Parting.{rings_changed, flatten_map}
+use Rattle.frame.proofs.Parting.{rings_changed, flatten_map, ends_map}
 use Rattle.chart.specs.Chart.{normalised_by}
 
 abbrev change : Frame → Point → Point
 change f = normal_of f.least.u f.least.v f.scale.u f.scale.v
-
--- a change of every point leaves where the rings end
-ends_same : (g : Point → Point) (rings : List (List Point)) (from : ℕ) → ends_from from (map (map g) rings) ≡ ends_from from rings
-unfolding ends_from
-ends_same g [] from = refl
-ends_same g (ring ∷ rings) from = rw (length-map ring g) (ap (λ (es : List ℕ). (from + length ring) ∷ es) (ends_same g rings (from + length ring)))
 
 module _ (f : Frame) {ends : List ℕ} {points normal : List Point} (before : List Point) (p : Packed ends points) (same : length points ≡ length before) (n : normal ≡ over (map (change f) points) before) where
   normal_is : normal ≡ map (change f) points
@@ -36,7 +30,7 @@ module _ (f : Frame) {ends : List ℕ} {points normal : List Point} (before : Li
       let rings = rings_from 0 ends points in
       record {
         points_are = normal_is ∙ ap (map (change f)) p.points_are ∙ flatten_map (change f) rings ∙ ap flatten (sym normal_rings);
-        ends_are = p.ends_are ∙ sym (ends_same (change f) rings 0) ∙ ap (ends_from 0) (sym normal_rings);
+        ends_are = p.ends_are ∙ sym (ends_map (change f) rings 0) ∙ ap (ends_from 0) (sym normal_rings);
       }
 
   pub normal_length : length normal ≡ length points

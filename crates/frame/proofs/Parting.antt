@@ -40,7 +40,7 @@ unfolding flatten
 flatten_map g [] = refl
 flatten_map g (ring ∷ rings) = map-append g ring (flatten rings) ∙ ap (λ (ps : List Point). map g ring ++ ps) (flatten_map g rings)
 
-ends_map : (g : Point → Point) (rings : List (List Point)) (from : ℕ) → ends_from from (map (map g) rings) ≡ ends_from from rings
+pub ends_map : (g : Point → Point) (rings : List (List Point)) (from : ℕ) → ends_from from (map (map g) rings) ≡ ends_from from rings
 unfolding ends_from
 ends_map g [] from = refl
 ends_map g (ring ∷ rings) from = rw (length-map ring g) (ap (λ (es : List ℕ). (from + length ring) ∷ es) (ends_map g rings (from + length ring)))
