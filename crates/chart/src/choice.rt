@@ -9,7 +9,7 @@ use clearance::NO_SEGMENT;
 use frame::{Frame, Rings};
 use points::Segment;
 use search::Candidate;
-use sheet::{MOST_POINTS, ORIGIN, SMALL_POINTS, Sense};
+use sheet::{MOST_POINTS, ORIGIN, Point, SMALL_POINTS, Sense};
 
 // The rings of a sheet: nothing lies between them, and neither they nor their points are more than a sheet can have.
 #[derive(Clone, Copy)]
@@ -55,20 +55,35 @@ fn chosen_from(f: Frame, sense: Sense, normalised: SheetRings, list: &mut [Segme
     search::choose(period, &list[..n], &covered)
 }
 
-// The grid point chosen in a frame, over lists of its own that have room for N points and as many segments.
-fn chosen_within<const N: usize>(f: Frame, sense: Sense, moved: SheetRings) -> Candidate
-    requires { (length moved.rings.points.now ≤ N) × (N ≤ 2176) }
+// The grid point chosen in a frame. `normal` has room for just the normalised points, `list` for their segments. It is
+// kept apart from `chosen_within`: in one function the search was slower by a tenth.
+fn chosen_over(
+    f: Frame,
+    sense: Sense,
+    moved: SheetRings,
+    normal: &mut [Point],
+    list: &mut [Segment],
+) -> Candidate
+    requires { (length moved.rings.points.now ≡ length normal.old) × (length moved.rings.points.now ≤ length list.old) × (length list.old ≤ 2176) }
     ensures { result ≡ candidate f sense (normalised_by f (rings_in moved.entry.rings)) }
 {
-    let mut room = [ORIGIN; N];
-    let mut list = [NO_SEGMENT; N];
-    let normal = &mut room[..moved.rings.points.len()];
     points::normalise_into(f.least, f.scale, moved.rings.points, normal);
     let rings = Rings {
         points: normal,
         ends: moved.rings.ends,
     };
-    chosen_from(f, sense, SheetRings { rings }, &mut list)
+    chosen_from(f, sense, SheetRings { rings }, list)
+}
+
+// The same, over lists of its own that have room for N points and as many segments.
+fn chosen_within<const N: usize>(f: Frame, sense: Sense, moved: SheetRings) -> Candidate
+    requires { (length moved.rings.points.now ≤ N) × (N ≤ 2176) }
+    ensures { result ≡ candidate f sense (normalised_by f (rings_in moved.entry.rings)) }
+{
+    let mut normal = [ORIGIN; N];
+    let mut list = [NO_SEGMENT; N];
+    let n = moved.rings.points.len();
+    chosen_over(f, sense, moved, &mut normal[..n], &mut list)
 }
 
 // The same, by the number of points.

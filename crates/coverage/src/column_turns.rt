@@ -2,9 +2,10 @@
 // same between two columns where they are equal. They are worked out once and serve up to a column that was
 // asked. Where the period is at least 1, as on every sheet, they change at one column at most.
 ghost use Rattle.std.specs.Prelude.{◌≡◌, ◌≤◌};
+ghost use Rattle.std.specs.Float.Ieee.{eq};
 ghost use Rattle.coverage.specs.Lines.{turn_at, Turning};
 
-use points::{columns_ahead, keeps_order, part, whole_turns};
+use points::{ColumnTest, column_ahead, keeps_order, part, whole_turns};
 
 // The turns of a segment with the middle mid, at the columns from one up to another.
 #[derive(Clone, Copy)]
@@ -31,21 +32,41 @@ impl ColumnTurns {
         }
     }
 
+    // A column from theirs on up to which they serve: the last one, or one that is found by halves.
+    fn reach(self) -> u32
+        requires { self.by ≡ turn_at self.period self.mid self.from }
+        ensures { (self.from ≤ result) × Turning self.period self.mid self.from result self.by }
+    {
+        if !keeps_order(self.period, self.mid) {
+            return self.from;
+        }
+        column_ahead(self.from, self).unwrap_or(self.from)
+    }
+
     // Those at column i: they stay where they still serve, else they are worked out.
     pub(crate) fn bring_to(&mut self, i: u32)
         requires { self.old.from ≤ i }
         ensures { (self.new.period ≡ self.old.period) × (self.new.mid ≡ self.old.mid) × (self.new.from ≤ i) × (i ≤ self.new.until) }
     {
         if self.until < i {
-            let by = turn_at(self.period, self.mid, i);
             *self = ColumnTurns {
                 period: self.period,
                 mid: self.mid,
-                by,
+                by: turn_at(self.period, self.mid, i),
                 from: i,
-                until: turned_until(self.period, self.mid, i, by),
+                until: i,
             };
+            self.until = self.reach();
         }
+    }
+}
+
+// Whether the turns at column m are the same.
+impl ColumnTest for ColumnTurns {
+    ghost holds = { λ turns m. eq turns.by (turn_at turns.period turns.mid m) };
+
+    fn holds_at(self, m: u32) -> bool {
+        self.by == turn_at(self.period, self.mid, m)
     }
 }
 
@@ -54,18 +75,4 @@ fn turn_at(period: f64, mid: f64, i: u32) -> f64
     ensures { result ≡ turn_at period mid i }
 {
     whole_turns(mid - part(i), period)
-}
-
-// A column from i on up to which the turns at column i serve: the last one, or one that is found by halves.
-fn turned_until(period: f64, mid: f64, i: u32, by: f64) -> u32
-    requires { by ≡ turn_at period mid i }
-    ensures { (i ≤ result) × Turning period mid i result by }
-{
-    if !keeps_order(period, mid) {
-        return i;
-    }
-    columns_ahead(i)
-        .into_iter()
-        .find(|m| by == turn_at(period, mid, *m))
-        .unwrap_or(i)
 }

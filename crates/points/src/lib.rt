@@ -13,7 +13,7 @@ mod turns;
 mod written;
 
 pub use bounds::{Box, box_of, goes_around};
-pub use columns::columns_ahead;
+pub use columns::{ColumnTest, column_ahead};
 pub use grid::part;
 pub use joins::is_open;
 pub use phase::Phase;

@@ -7,7 +7,7 @@ ghost use Rattle.points.specs.Grid.{part as part_of};
 ghost use Rattle.search.specs.Copies.{same, same_ends, regular, Serving, Ready};
 ghost use Rattle.clearance.specs.Clearance.{shifted_to};
 
-use points::{Segment, part};
+use points::{ColumnTest, Segment, column_ahead, part};
 use sheet::Point;
 
 // The segment's copy for the points at u.
@@ -54,25 +54,46 @@ fn is_regular(period: f64, s: Segment) -> bool
         && points::is_number(s.b.u)
 }
 
-// Whether this copy is the one at column m.
-fn is_served(period: f64, copy: Segment, m: u32, s: Segment) -> bool
-    ensures { result ≡ same_ends copy (shifted_to period (part_of m) s) }
-{
-    are_same(copy, copy_at(period, part(m), s))
+// The copy of a segment at a column.
+#[derive(Clone, Copy)]
+struct ColumnCopy {
+    period: f64,
+    segment: Segment,
+    column: u32,
+    copy: Segment,
+    ghost is_copy: { copy ≡ shifted_to period (part_of column) segment },
 }
 
-// A column from i on up to which this copy, the one at column i, serves: the last one, or one that is found by halves.
-fn served(period: f64, i: u32, copy: Segment, s: Segment) -> u32
-    requires { copy ≡ shifted_to period (part_of i) s }
-    ensures { (i ≤ result) × Serving period i result s copy }
-{
-    if is_regular(period, s) {
-        points::columns_ahead(i)
-            .into_iter()
-            .find(|m| is_served(period, copy, *m, s))
-            .unwrap_or(i)
-    } else {
-        i
+// Whether the copy at column m is the same.
+impl ColumnTest for ColumnCopy {
+    ghost holds = { λ it m. same_ends it.copy (shifted_to it.period (part_of m) it.segment) };
+
+    fn holds_at(self, m: u32) -> bool {
+        are_same(self.copy, copy_at(self.period, part(m), self.segment))
+    }
+}
+
+impl ColumnCopy {
+    fn new(period: f64, column: u32, segment: Segment) -> ColumnCopy
+        ensures { (result.period ≡ period) × (result.column ≡ column) × (result.segment ≡ segment) }
+    {
+        ColumnCopy {
+            period,
+            segment,
+            column,
+            copy: copy_at(period, part(column), segment),
+        }
+    }
+
+    // A column from its own on up to which the copy serves: the last one, or one that is found by halves.
+    fn reach(self) -> u32
+        ensures { (self.column ≤ result) × Serving self.period self.column result self.segment self.copy }
+    {
+        if is_regular(self.period, self.segment) {
+            column_ahead(self.column, self).unwrap_or(self.column)
+        } else {
+            self.column
+        }
     }
 }
 
@@ -91,9 +112,9 @@ pub(crate) fn renew(
 {
     for (k, s) in list.iter().enumerate() {
         if until[k] < i {
-            let copy = copy_at(period, part(i), *s);
-            copies[k] = copy;
-            until[k] = served(period, i, copy, *s);
+            let here = ColumnCopy::new(period, i, *s);
+            copies[k] = here.copy;
+            until[k] = here.reach();
         }
     }
 }
