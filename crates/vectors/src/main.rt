@@ -94,8 +94,8 @@ fn run_file<F: Fn(f64) -> f64>(rt: &(impl Files + Print), name: &str, leaf: F) -
     println!(rt; "{name}: {} vectors, {} wrong", tally.read, tally.wrong)
 }
 
-// Whether the file was run and its line written; else it says on standard error what failed. (replay has such a pair, of
-// another record and another line; one for both would be a public function that requires of its caller what stands here.)
+// Whether the file was run and its line written; else it says on standard error what failed. (replay has such a pair:
+// what both share is the opening of a file, and `cases::is_run`.)
 fn is_run<F: Fn(f64) -> f64>(rt: &(impl Files + Print + Eprint), name: &str, leaf: F) -> bool
     requires { F.IsAlwaysCallable leaf }
 {
