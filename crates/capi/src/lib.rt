@@ -1,7 +1,7 @@
 // The calls over the C convention: exported functions and nothing else. The archive for Rust or C is
 // crates/capi/out/libcapi.a (`rt lib` here). Names carry the prefix facepoint_, since `round`
 // and `hypot` alone would clash with the C library's. A slice goes as a pointer and the number of its
-// elements.
+// elements. Phase, sense, n and the status are numbers, since C gives and reads them.
 #![tactic(auto)]
 
 ghost use Rattle.std.specs.Prelude.{◌≡◌};

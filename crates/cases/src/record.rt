@@ -25,8 +25,8 @@ pub enum RecordError {
     Io(#[from] io::Error),
 }
 
-// The head of a recorded call: the sheet's length, the phase and the list's length. Neither length is above the
-// longest.
+// The head of a recorded call: the sheet's length, the phase, a number, as the file has it, and the list's length.
+// Neither length is above the longest.
 #[derive(Clone, Copy, Debug, PartialEq, Eq)]
 pub struct Head {
     pub bytes: usize,

@@ -50,7 +50,7 @@ fn put_line<'a>(answer: Answer, page: &'a mut [u8; LINE]) -> &'a [u8]
     ensures { result.now ≡ line_of answer }
 {
     let n = match answer {
-        Ok(v) => text::point_line(v.x, v.y, v.z, v.clearance, v.count, 0, page),
+        Ok(v) => text::point_line(v, 0, page),
         Err(refusal) => text::refusal_line(u32::from(refusal), 0, page),
     };
     &page[..n]

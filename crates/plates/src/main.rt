@@ -22,7 +22,7 @@ const NAME_SIZE: usize = 32;
 // A proved loop has to end: this is more than the file has.
 const MOST_PLATES: u64 = 10000;
 
-#[derive(Clone, Copy)]
+#[derive(Clone, Copy, Debug, PartialEq, Eq)]
 enum Call {
     Chart,
     ImagePick,
@@ -61,11 +61,12 @@ fn before_spaces(name: &[u8]) -> &[u8]
     &name[..last.map_or(0, |k| k + 1)]
 }
 
-// Puts an answer's numbers at the start of the page, and gives them.
+// Puts an answer's numbers at the start of the page, and gives them. (facepoint's `put_line` puts a whole line, with its
+// newline, and promises it.)
 #[tactic(auto, using(crate::proofs::Pages::behind_within))]
 fn put_answer<'a>(answer: Answer, page: &'a mut [u8; 80]) -> &'a [u8] {
     let n = match answer {
-        Ok(v) => text::put_point(v.x, v.y, v.z, v.clearance, v.count, 0, page),
+        Ok(v) => text::put_point(v, 0, page),
         Err(refusal) => text::put_decimal(u32::from(refusal), 0, page),
     };
     &page[..n]

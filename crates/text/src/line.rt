@@ -1,6 +1,6 @@
 // The line of an answer: a point's numbers with single spaces between them, or a refusal's number alone.
 // It is made in a vector of fixed room, and laid into the page as a whole. (`write!` would not do: no clause says
-// that it succeeds where there is room.) A point's five numbers stand one by one, as the public writers take them.
+// that it succeeds where there is room.)
 ghost use Rattle.std.specs.Prelude.{◌≡◌, ◌++◌, ◌+◌, ◌≤◌, length};
 ghost use Rattle.arrayvec.specs.ArrayVec.{array_vec_len};
 ghost use Rattle.text.specs.Page.{laid, behind};
@@ -9,6 +9,7 @@ ghost use Rattle.text.specs.Line.{number, point_text, point_line, refusal_line};
 
 use crate::hexadecimal::{bits_of, hex};
 use crate::page::put_bytes;
+use answers::Values;
 use arrayvec::ArrayVec;
 
 // The longest line: 1 + 4 x 17 + 1 bytes, a count of ten digits and a newline.
@@ -48,53 +49,37 @@ fn push_decimal(line: &mut Line, n: u32)
 
 // A point's numbers: its status 0, x, y, z, clearance and count.
 #[tactic(auto, using(crate::proofs::Tens::status), unfolding(crate::specs::Line::point_text))]
-fn point_text(x: f64, y: f64, z: f64, clearance: f64, count: u32) -> Line
-    ensures text { result.items ≡ point_text x y z clearance count }
+fn point_text(v: Values) -> Line
+    ensures text { result.items ≡ point_text v.x v.y v.z v.clearance v.count }
     ensures len { array_vec_len result ≤ 80 }
 {
     let mut line = Line::new();
     line.push(b'0');
-    push_number(&mut line, x);
-    push_number(&mut line, y);
-    push_number(&mut line, z);
-    push_number(&mut line, clearance);
+    push_number(&mut line, v.x);
+    push_number(&mut line, v.y);
+    push_number(&mut line, v.z);
+    push_number(&mut line, v.clearance);
     line.push(b' ');
-    push_decimal(&mut line, count);
+    push_decimal(&mut line, v.count);
     line
 }
 
 // Puts a point's numbers: its status 0, x, y, z, clearance and count.
-pub fn put_point(
-    x: f64,
-    y: f64,
-    z: f64,
-    clearance: f64,
-    count: u32,
-    at: usize,
-    page: &mut [u8],
-) -> usize
-    ensures value { result ≡ behind at (point_text x y z clearance count) page.old }
-    ensures page_after { page.new ≡ laid at (point_text x y z clearance count) page.old }
+pub fn put_point(v: Values, at: usize, page: &mut [u8]) -> usize
+    ensures value { result ≡ behind at (point_text v.x v.y v.z v.clearance v.count) page.old }
+    ensures page_after { page.new ≡ laid at (point_text v.x v.y v.z v.clearance v.count) page.old }
 {
-    let text = point_text(x, y, z, clearance, count);
+    let text = point_text(v);
     put_bytes(text.as_slice(), at, page)
 }
 
 // Puts a point's numbers and a newline.
 #[tactic(auto, unfolding(crate::specs::Line::point_line))]
-pub fn point_line(
-    x: f64,
-    y: f64,
-    z: f64,
-    clearance: f64,
-    count: u32,
-    at: usize,
-    page: &mut [u8],
-) -> usize
-    ensures value { result ≡ behind at (point_line x y z clearance count) page.old }
-    ensures page_after { page.new ≡ laid at (point_line x y z clearance count) page.old }
+pub fn point_line(v: Values, at: usize, page: &mut [u8]) -> usize
+    ensures value { result ≡ behind at (point_line v.x v.y v.z v.clearance v.count) page.old }
+    ensures page_after { page.new ≡ laid at (point_line v.x v.y v.z v.clearance v.count) page.old }
 {
-    let mut line = point_text(x, y, z, clearance, count);
+    let mut line = point_text(v);
     line.push(b'\n');
     put_bytes(line.as_slice(), at, page)
 }

@@ -2,7 +2,8 @@
 ghost use Rattle.std.specs.Prelude.{◌≡◌};
 ghost use Rattle.text.specs.Page.{laid, behind};
 
-// Puts the bytes in their order, the first of them at `at`.
+// Puts the bytes in their order, the first of them at `at`. A place goes in and a place is answered, here and in the
+// other writers, so that a caller lays texts one behind the other in one page.
 #[tactic(auto, unfolding(crate::specs::Page::behind, crate::specs::Page::laid))]
 pub fn put_bytes(bytes: &[u8], at: usize, page: &mut [u8]) -> usize
     ensures value { result ≡ behind at bytes.now page.old }
