@@ -67,7 +67,7 @@ pub fn length(v: Place) -> f64
 fn serves(length: f64) -> bool
     ensures { result ≡ unit_serves length }
 {
-    PARALLEL < length && length < 1.0 / 0.0
+    PARALLEL < length && length < f64::INFINITY
 }
 
 // Each coordinate over the length.
