@@ -10,14 +10,6 @@ use answers::{ARGUMENT_LIMIT, any_number_beyond, is_beyond, is_place_beyond};
 use leaves::constants::{END_LIMIT, MICRO, PI};
 use space::Place;
 
-// Three coordinates as a place.
-pub fn place_of(p: [f64; 3]) -> Place
-    ensures { result ≡ place_at p 0 }
-{
-    let [x, y, z] = p;
-    Place { x, y, z }
-}
-
 // 16, of a side's ends, or of the evaluated ones.
 fn ends_beyond(ends: &[[f64; 3]; 2]) -> bool
     ensures { result ≡ any_of (any_of (beyond argument_limit)) ends.now }
@@ -59,9 +51,9 @@ impl Sphere {
         ensures { result ≡ end_wrong self (place_at end 0) (place_at evaluated 0) }
     {
         let limit = self.radius * END_LIMIT;
-        let p = place_of(end);
+        let p = Place::from(end);
         let d = space::minus(p, self.centre);
-        limit < space::distance(place_of(evaluated), p)
+        limit < space::distance(Place::from(evaluated), p)
             || leaves::exceeds(space::length(d) - self.radius, limit)
             || space::unit(d).is_none()
     }
