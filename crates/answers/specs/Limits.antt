@@ -5,12 +5,17 @@ use Rattle.std.specs.Prelude.{Bool, not, ◌&&◌, ◌||◌, List, ℕ, eqb, len
 use Rattle.std.specs.Float.{binary64}
 use Rattle.std.specs.Float.Ieee.{of_bits, neg, le}
 use Rattle.leaves.specs.Constants.{greatest_finite}
+use Rattle.space.specs.declared.vectors.Place.{Place}
 use Rattle.answers.specs.Lists.{any_of}
 
 -- of magnitude above the limit, infinite, or a NaN
 unfoldable pub beyond : Float → Float → Bool
 unfolding le neg
 beyond limit x = not (le (neg limit) x && le x limit)
+
+-- of a place: a coordinate is beyond the limit
+unfoldable pub place_beyond : Float → Place → Bool
+place_beyond limit p = beyond limit p.x || beyond limit p.y || beyond limit p.z
 
 -- of magnitude above the greatest finite one, infinite, or a NaN
 abbrev pub not_finite : Float → Bool

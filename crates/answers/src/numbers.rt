@@ -1,7 +1,9 @@
-// Numbers held against a limit: of one, of a list, and of a list that a call asks for by its length.
+// Numbers held against a limit: of one, of a place, of a list, and of a list that a call asks for by its length.
 ghost use Rattle.std.specs.Prelude.{◌≡◌};
 ghost use Rattle.answers.specs.Lists.{any_of};
-ghost use Rattle.answers.specs.Limits.{beyond, missing};
+ghost use Rattle.answers.specs.Limits.{beyond, place_beyond, missing};
+
+use space::Place;
 
 // 2^20, for a number of the triangle and of the fallbacks.
 pub const ARGUMENT_LIMIT: f64 = 1048576.0;
@@ -12,6 +14,14 @@ pub fn is_beyond(limit: f64, x: f64) -> bool
     ensures { result ≡ beyond limit x }
 {
     !(-limit <= x && x <= limit)
+}
+
+// Whether a coordinate is beyond the limit.
+#[tactic(auto, unfolding(crate::specs::Limits::place_beyond))]
+pub fn is_place_beyond(limit: f64, p: Place) -> bool
+    ensures { result ≡ place_beyond limit p }
+{
+    is_beyond(limit, p.x) || is_beyond(limit, p.y) || is_beyond(limit, p.z)
 }
 
 // Whether any number of a list is beyond the limit.

@@ -16,5 +16,5 @@ pub use bounds::{clamp, exceeds, larger_of, smaller_of};
 pub use hypotenuse::{hypot, hypot_of_key, hypot3, key};
 pub use nearest::round;
 pub use square_root::root;
-// `turn` is an older name of `wrap`.
+// `turn` is another name of `wrap`.
 pub use wrapping::{rem_tau, wrap, wrap as turn};

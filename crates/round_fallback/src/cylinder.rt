@@ -85,7 +85,8 @@ fn keep(sorted: &mut [f64]) -> &[f64]
     };
     let mut last = *first;
     let mut count = 1;
-    // By index, since the list is read and written in place: no slice has a dedup, and there is no heap for a Vec.
+    // By index, since the list is read and written in place: no slice has a dedup, and the archive uses none of the
+    // kit's crates that have one.
     for k in 1..sorted.len() {
         let x = sorted[k];
         if !is_near(x, last) {
@@ -196,6 +197,7 @@ fn middle(heights: &[f64], angles: &[f64]) -> Result<Middle, Refusal>
 }
 
 // The middle angle and height of a round face, from the heights and angles of its corners.
+// Heights and angles are two lists, not one of pairs: C lends two, and their lengths may differ.
 #[tactic(auto, using(crate::proofs::Sorting::turned_numeric, crate::proofs::Refusals::few_angles, answers::proofs::Calls::calls), unfolding(crate::specs::Cylinder::cylinder_point_of))]
 pub fn cylinder_point(heights: &[f64], angles: &[f64]) -> Result<Middle, Refusal>
     ensures { middle_paper result ≡ cylinder_point_of heights.now angles.now }

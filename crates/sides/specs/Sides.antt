@@ -8,7 +8,7 @@ use Rattle.leaves.specs.Constants.{plus_zero, pi, micro, end_limit}
 use Rattle.space.specs.Places.{place_at}
 use Rattle.space.specs.Vectors.{minus_of, distance_of, length_of, unit_of, unit_fails}
 use Rattle.space.specs.declared.vectors.Place.{Place}
-use Rattle.answers.specs.Limits.{beyond, argument_limit}
+use Rattle.answers.specs.Limits.{beyond, place_beyond as place_beyond_of, argument_limit}
 use Rattle.answers.specs.Lists.{any_of}
 use Rattle.sides.specs.declared.side.Sphere.{Sphere}
 use Rattle.sides.specs.declared.side.Side.{Side}
@@ -23,7 +23,7 @@ end_of ends k = place_at (get_or ends k []) 0
 -- ---- 16: "a number not finite or above 2^20 in magnitude, r not above 0, sense above 2"
 
 unfoldable pub place_beyond : Place → Bool
-place_beyond p = beyond argument_limit p.x || beyond argument_limit p.y || beyond argument_limit p.z
+place_beyond p = place_beyond_of argument_limit p
 
 -- of a sphere or a circle
 unfoldable pub sphere_beyond : Sphere → Bool

@@ -3,29 +3,12 @@ ghost use Rattle.std.specs.Prelude.{◌≡◌};
 ghost use Rattle.space.specs.Places.{place_at};
 ghost use Rattle.answers.specs.Limits.{beyond, argument_limit};
 ghost use Rattle.answers.specs.Lists.{any_of};
-ghost use Rattle.sides.specs.Sides.{place_beyond, sphere_beyond, sphere_wrong, side_beyond, sides_beyond, circle_wrong, end_wrong, side_wrong, sides_wrong};
+ghost use Rattle.sides.specs.Sides.{sphere_beyond, sphere_wrong, side_beyond, sides_beyond, circle_wrong, end_wrong, side_wrong, sides_wrong};
 
 use crate::side::{Side, Sphere};
-use answers::{ARGUMENT_LIMIT, any_number_beyond, is_beyond};
+use answers::{ARGUMENT_LIMIT, any_number_beyond, is_beyond, is_place_beyond};
 use leaves::constants::{END_LIMIT, MICRO, PI};
 use space::Place;
-
-// Three coordinates as a place.
-pub fn place_of(p: [f64; 3]) -> Place
-    ensures { result ≡ place_at p 0 }
-{
-    let [x, y, z] = p;
-    Place { x, y, z }
-}
-
-#[tactic(auto, unfolding(crate::specs::Sides::place_beyond))]
-fn place_beyond(p: Place) -> bool
-    ensures { result ≡ place_beyond p }
-{
-    is_beyond(ARGUMENT_LIMIT, p.x)
-        || is_beyond(ARGUMENT_LIMIT, p.y)
-        || is_beyond(ARGUMENT_LIMIT, p.z)
-}
 
 // 16, of a side's ends, or of the evaluated ones.
 fn ends_beyond(ends: &[[f64; 3]; 2]) -> bool
@@ -37,11 +20,11 @@ fn ends_beyond(ends: &[[f64; 3]; 2]) -> bool
 
 impl Sphere {
     // 16, of the centre and the radius.
-    #[tactic(auto, unfolding(crate::specs::Sides::sphere_beyond))]
+    #[tactic(auto, unfolding(crate::specs::Sides::sphere_beyond, crate::specs::Sides::place_beyond))]
     fn is_beyond(self) -> bool
         ensures { result ≡ sphere_beyond self }
     {
-        place_beyond(self.centre) || is_beyond(ARGUMENT_LIMIT, self.radius)
+        is_place_beyond(ARGUMENT_LIMIT, self.centre) || is_beyond(ARGUMENT_LIMIT, self.radius)
     }
 
     // 16, of the sphere.
@@ -68,9 +51,9 @@ impl Sphere {
         ensures { result ≡ end_wrong self (place_at end 0) (place_at evaluated 0) }
     {
         let limit = self.radius * END_LIMIT;
-        let p = place_of(end);
+        let p = Place::from(end);
         let d = space::minus(p, self.centre);
-        limit < space::distance(place_of(evaluated), p)
+        limit < space::distance(Place::from(evaluated), p)
             || leaves::exceeds(space::length(d) - self.radius, limit)
             || space::unit(d).is_none()
     }

@@ -4,5 +4,5 @@
 mod checks;
 mod side;
 
-pub use checks::{place_of, sides_beyond, sides_wrong};
+pub use checks::{sides_beyond, sides_wrong};
 pub use side::{Side, Sphere};

@@ -10,6 +10,7 @@ pub struct Sphere {
 
 // A side: its two ends of three coordinates, as the edge has them, whether the coedge runs against the edge, the
 // edge's circle, the two ends of its range, and the two ends that the host evaluated.
+// The ends are arrays of numbers, not places: document 01 lists the form "two ends by three coordinates".
 #[derive(Clone, Copy, Debug, PartialEq)]
 pub struct Side {
     pub ends: [[f64; 3]; 2],

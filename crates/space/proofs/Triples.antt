@@ -3,15 +3,14 @@ use mathlib.Core.Path.{◌≡◌, refl, sym}
 use mathlib.Core.List.{List, [], ◌∷◌}
 use Prim.Native.Nat.{ℕ, ◌/◌, ◌≤◌}
 use native.Mathlib.Omega.{arith}
-use lib.Ieee.{Float, nan, binary64, of_bits, div}
+use lib.Ieee.{Float, nan, binary64, of_bits}
 use lib.ListN.{length, get_or, get_or-eq_default}
-use Rattle.leaves.specs.Constants.{plus_zero}
 use Rattle.space.specs.Places.{triples}
 
--- ---- past the end, where a 0 over a 0 stands in the code
+-- ---- past the end, where the code gives the pattern of a NaN
 
-pub past_end : (xs : List Float) {n : ℕ} → length xs ≤ n → div binary64 plus_zero plus_zero ≡ get_or xs n nan
-unfolding div of_bits
+pub past_end : (xs : List Float) {n : ℕ} → length xs ≤ n → of_bits binary64 0x7FF8000000000000 ≡ get_or xs n nan
+unfolding of_bits
 past_end xs h = sym (get_or-eq_default xs nan h)
 
 -- ---- how many

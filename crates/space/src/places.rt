@@ -7,13 +7,15 @@ ghost use Rattle.space.specs.Places.{place_at, places_left};
 use crate::vectors::Place;
 
 // The number at `at`, or a NaN past the list's end.
+#[tactic(auto, using(crate::proofs::Triples::past_end))]
 fn number_at(list: &[f64], at: usize) -> f64
     ensures { result ≡ get_or list.now at nan }
 {
-    if at < list.len() { list[at] } else { 0.0 / 0.0 }
+    if at < list.len() { list[at] } else { f64::NAN }
 }
 
 // The place whose three numbers begin at `at`; a number past the list's end is a NaN.
+#[tactic(auto, using(crate::proofs::Triples::past_end))]
 pub fn place_at(list: &[f64], at: usize) -> Place
     ensures { result ≡ place_at list.now at }
 {
@@ -25,9 +27,9 @@ pub fn place_at(list: &[f64], at: usize) -> Place
         }
     } else {
         Place {
-            x: 0.0 / 0.0,
-            y: 0.0 / 0.0,
-            z: 0.0 / 0.0,
+            x: f64::NAN,
+            y: f64::NAN,
+            z: f64::NAN,
         }
     }
 }

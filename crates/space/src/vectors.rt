@@ -1,5 +1,6 @@
 // Differences, products and lengths, operation by operation as in sketch.rs.
 ghost use Rattle.std.specs.Prelude.{◌≡◌};
+ghost use Rattle.space.specs.Places.{place_at};
 ghost use Rattle.space.specs.Vectors.{minus_of, dot_of, cross_of, distance_of, length_of, unit_serves, over as over_of, unit_of};
 
 use leaves::constants::PARALLEL;
@@ -9,6 +10,15 @@ pub struct Place {
     pub x: f64,
     pub y: f64,
     pub z: f64,
+}
+
+impl From<[f64; 3]> for Place {
+    ghost from_gives = { λ numbers p. p ≡ place_at numbers 0 };
+
+    fn from(numbers: [f64; 3]) -> Place {
+        let [x, y, z] = numbers;
+        Place { x, y, z }
+    }
 }
 
 // Zeros.
@@ -67,7 +77,7 @@ pub fn length(v: Place) -> f64
 fn serves(length: f64) -> bool
     ensures { result ≡ unit_serves length }
 {
-    PARALLEL < length && length < 1.0 / 0.0
+    PARALLEL < length && length < f64::INFINITY
 }
 
 // Each coordinate over the length.

@@ -9,7 +9,7 @@ use Rattle.space.specs.Vectors.{place}
 use Rattle.space.specs.declared.vectors.Place.{Place}
 use Rattle.answers.specs.Outcome.{check, first, Numbers, settled}
 use Rattle.answers.specs.Answers.{valued}
-use Rattle.answers.specs.Limits.{not_finite, missing}
+use Rattle.answers.specs.Limits.{place_beyond, missing}
 
 -- ((t + r₀ p₀) + r₁ p₁) + r₂ p₂
 unfoldable pub row : Float → Float → Float → Float → Place → Float
@@ -26,7 +26,7 @@ unfolding row_at
 placed_at transform p = place (row_at transform 0 p) (row_at transform 4 p) (row_at transform 8 p)
 
 unfoldable pub any_not_finite : Place → Bool
-any_not_finite p = not_finite p.x || not_finite p.y || not_finite p.z
+any_not_finite p = place_beyond greatest_finite p
 
 unfoldable pub placed_of : List Float → List Float → Numbers
 unfolding any_not_finite placed_at

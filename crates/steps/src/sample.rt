@@ -44,6 +44,7 @@ fn sampled(a: f64, b: f64, n: u32) -> f64
 }
 
 // a at n = 0, b at n = 16, and the parameter between them for an n between.
+// n is a number: the host gives any, and the call itself refuses one above 16. a, b, n are in the order of uv.rs.
 #[tactic(auto, using(crate::proofs::Sampling::sample_right, answers::proofs::Calls::calls), unfolding(crate::specs::Sample::sample_parameter_of))]
 pub fn sample_parameter(a: f64, b: f64, n: u32) -> Result<Parameter, Refusal>
     ensures { parameter_paper result ≡ sample_parameter_of a b n }

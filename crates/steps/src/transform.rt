@@ -1,9 +1,9 @@
 // A point by a body's transform.
 ghost use Rattle.std.specs.Prelude.{◌≡◌, ◌+◌, ◌<◌, length};
 ghost use Rattle.answers.specs.Answers.{position_paper};
-ghost use Rattle.steps.specs.Placed.{row_at, any_not_finite, placed_at, placed_of};
+ghost use Rattle.steps.specs.Placed.{row_at, placed_at, placed_of};
 
-use answers::{Refusal, is_beyond, is_missing};
+use answers::{Refusal, is_missing, is_place_beyond};
 use leaves::constants::GREATEST_FINITE;
 use space::Place;
 
@@ -28,18 +28,9 @@ fn placed_at(transform: &[f64], p: Place) -> Place
     }
 }
 
-// 24: a coordinate is not finite.
-#[tactic(auto, unfolding(crate::specs::Placed::any_not_finite))]
-fn any_not_finite(p: Place) -> bool
-    ensures { result ≡ any_not_finite p }
-{
-    is_beyond(GREATEST_FINITE, p.x)
-        || is_beyond(GREATEST_FINITE, p.y)
-        || is_beyond(GREATEST_FINITE, p.z)
-}
-
-// The point where the transform puts it: three rows of four numbers, the last of each the translation.
-#[tactic(auto, using(answers::proofs::Present::present, answers::proofs::Calls::calls), unfolding(crate::specs::Placed::placed_of))]
+// The point where the transform puts it: three rows of four numbers, the last of each the translation; 24: a
+// coordinate is not finite.
+#[tactic(auto, using(answers::proofs::Present::present, answers::proofs::Calls::calls), unfolding(crate::specs::Placed::placed_of, crate::specs::Placed::any_not_finite))]
 pub fn placed(transform: &[f64], point: &[f64]) -> Result<Place, Refusal>
     ensures { position_paper result ≡ placed_of transform.now point.now }
 {
@@ -47,7 +38,7 @@ pub fn placed(transform: &[f64], point: &[f64]) -> Result<Place, Refusal>
         return Err(Refusal::Argument);
     }
     let p = placed_at(transform, space::place_at(point, 0));
-    if any_not_finite(p) {
+    if is_place_beyond(GREATEST_FINITE, p) {
         return Err(Refusal::NotFinite);
     }
     Ok(p)

@@ -7,7 +7,7 @@ ghost use Rattle.triangle.specs.Triangle.{towards as towards_of, arc_of, is_gap 
 
 use answers::Refusal;
 use leaves::constants::{END_LIMIT, MICRO};
-use sides::{Side, Sphere, place_of, sides_beyond, sides_wrong};
+use sides::{Side, Sphere, sides_beyond, sides_wrong};
 use space::{ORIGIN, Place};
 
 // The directions of a side's two ends from the sphere's centre, in the order of the coedge.
@@ -22,7 +22,7 @@ pub struct Arc {
 fn towards(centre: Place, end: [f64; 3]) -> Place
     ensures { result ≡ towards_of centre (place_at end 0) }
 {
-    space::unit(space::minus(place_of(end), centre)).unwrap_or(ORIGIN)
+    space::unit(space::minus(Place::from(end), centre)).unwrap_or(ORIGIN)
 }
 
 impl Arc {

@@ -8,7 +8,7 @@ ghost use Rattle.vertex_fallback.specs.Vertices.{vertices_wrong, corners_wrong, 
 
 use crate::corners::{Corner, Corners};
 use answers::{ARGUMENT_LIMIT, Refusal, any_number_beyond, is_missing};
-use sheet::Point;
+use sheet::{ORIGIN, Point};
 use space::{Place, Places};
 
 // As document 01 limits them.
@@ -110,6 +110,6 @@ pub fn point_on(u_axis: &[f64], normal: &[f64], corners: &[f64]) -> Result<Place
         u,
         v: space::cross(space::place_at(normal, 0), u),
     };
-    let mut ring = [Point { u: 0.0, v: 0.0 }; MOST_CORNERS];
+    let mut ring = [ORIGIN; MOST_CORNERS];
     axes.point_among(corners, &mut ring[..corners.len() / 3])
 }
