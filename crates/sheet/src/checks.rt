@@ -4,17 +4,12 @@ ghost use Rattle.sheet.specs.Layout.{plane, sheet_of};
 ghost use Rattle.sheet.specs.Checks.{length_wrong, version_wrong, kind_wrong, count_wrong, blocks_wrong, plane_wrong, layout_checks, content_checks};
 ghost use Rattle.answers.specs.Outcome.{first, status_of};
 
-use crate::fields::{byte_at, head_size, kind_of, word};
+use crate::fields::{byte_at, head_size, kind_of, sense_of, word};
 use crate::walk::{COORDINATE_LIMIT, any_beyond, blocks_fill, coedges_wrong, rings_wrong};
 use answers::Refusal;
 
 // 2, for a component of the u axis or the normal.
 const AXIS_LIMIT: f64 = 2.0;
-
-// The greatest kind and the greatest sense.
-const MOST_KIND: u8 = 6;
-
-const MOST_SENSE: u8 = 2;
 
 // 1: under 8 bytes, or a length field that is not the number of bytes after it.
 #[tactic(auto, unfolding(crate::specs::Checks::length_wrong))]
@@ -37,7 +32,7 @@ fn version_wrong(s: &[u8]) -> bool
 fn kind_wrong(s: &[u8]) -> bool
     ensures { result ≡ kind_wrong s.now }
 {
-    MOST_KIND < byte_at(s, 5) || MOST_SENSE < byte_at(s, 6)
+    kind_of(s).is_unknown() || sense_of(s).is_unknown()
 }
 
 // 4: no ring, or more than 16.

@@ -1,5 +1,5 @@
 // A surface's kind.
-ghost use Rattle.std.specs.Prelude.{◌≡◌, ◌||◌, ◌&&◌, eqb, leb};
+ghost use Rattle.std.specs.Prelude.{◌≡◌, ◌||◌, ◌&&◌, eqb, leb, ltb};
 
 use std::marker::Model;
 
@@ -89,5 +89,13 @@ impl Kind {
             self.named,
             Named::Cylinder | Named::Cone | Named::Sphere | Named::Torus
         )
+    }
+
+    // None of the seven.
+    #[tactic(auto, unfolding(crate::specs::Kinds::kind_number, crate::specs::Kinds::is_kind))]
+    pub fn is_unknown(self) -> bool
+        ensures { result ≡ ltb 6 self }
+    {
+        matches!(self.named, Named::Unknown(_))
     }
 }

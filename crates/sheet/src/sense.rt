@@ -1,5 +1,5 @@
 // A surface's sense.
-ghost use Rattle.std.specs.Prelude.{◌≡◌, eqb};
+ghost use Rattle.std.specs.Prelude.{◌≡◌, eqb, ltb};
 
 use std::marker::Model;
 
@@ -62,5 +62,13 @@ impl Sense {
         ensures { result ≡ eqb self 2 }
     {
         matches!(self.named, Named::Reversed)
+    }
+
+    // Neither absent nor forward nor reversed.
+    #[tactic(auto, unfolding(crate::specs::Senses::sense_number, crate::specs::Senses::is_sense))]
+    pub fn is_unknown(self) -> bool
+        ensures { result ≡ ltb 2 self }
+    {
+        matches!(self.named, Named::Unknown(_))
     }
 }
