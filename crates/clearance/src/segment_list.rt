@@ -21,18 +21,12 @@ pub const NO_SEGMENT: Segment = Segment {
 };
 
 // The segment as it is laid: on a periodic chart its end moved by whole turns to be near its start.
-#[tactic(auto, unfolding(crate::specs::Clearance::laid, points::specs::Segments::gained))]
+#[tactic(auto, unfolding(crate::specs::Clearance::laid))]
 fn laid(period: Option<f64>, s: Segment) -> Segment
     ensures { result ≡ laid period s }
 {
     match period {
-        Some(period) => Segment {
-            b: Point {
-                u: s.b.u + points::whole_turns(s.a.u - s.b.u, period),
-                ..s.b
-            },
-            ..s
-        },
+        Some(period) => s.gained(period),
         None => s,
     }
 }
