@@ -32,7 +32,7 @@ fn laid(period: Option<f64>, s: Segment) -> Segment
 }
 
 // The segments of a ring over the front of `list`, whose tail keeps its contents; a list that is too
-// short for them stays as it is.
+// short for them stays as it is. (An index in a zip's place: of what is written through a zip, no clause of it speaks.)
 pub fn lay(period: Option<f64>, ring: &[Point], list: &mut [Segment])
     ensures { list.new ≡ over (map (laid period) (segments ring.now)) list.old }
 {
