@@ -1,26 +1,14 @@
--- Laws about the places of a list: one place more is loaded, compared or added in.
-use Rattle.std.proofs.Common.{zero-add, ◌≡◌, ℕ, suc, ◌+◌, ◌*◌, ◌<◌, ◌≤◌, cond, List, [], ◌∷◌, ◌++◌, length, get_or, take, sym, add-zero, add_assoc, add-one, arith}
+-- Laws about the places of a list: one place more is loaded or added in.
+use Rattle.std.proofs.Common.{◌≡◌, ℕ, suc, ◌+◌, ◌*◌, ◌<◌, ◌≤◌, List, [], ◌∷◌, ◌++◌, length, get_or, take, add-one, arith}
 use lib.Ieee.{Float, nan, binary64, of_bits, to_bits}
 use Rattle.cases.specs.BigEndian.{big}
 use Rattle.std.proofs.Math.Seq.{take-suc, length-take-le}
-use Rattle.cases.specs.Places.{loaded, shown, wrong_from, weighted}
+use Rattle.cases.specs.Places.{loaded, weighted}
 
 -- the numbers of one place more
 pub loaded_more : (k : ℕ) (s : List ℕ) → loaded (k + 1) s ≡ loaded k s ++ (of_bits binary64 (big s (8 * k) 8) ∷ [])
 unfolding loaded
 loaded_more k s = rw (add-one k)
-
-wrong_append : (k : ℕ) (xs : List Float) (x : Float) (s : List ℕ) → wrong_from k (xs ++ (x ∷ [])) s ≡ wrong_from k xs s + cond (shown x (big s (8 * (k + length xs)) 8)) 0 1
-unfolding wrong_from
-wrong_append k [] x s = simp (add-zero, zero-add)
-wrong_append k (y ∷ xs) x s =
-    let at : suc k + length xs ≡ k + suc (length xs) = omega arith in
-    rw (wrong_append (suc k) xs x s, at) (sym (add_assoc (cond (shown y (big s (8 * k) 8)) 0 1) (wrong_from (suc k) xs s) _))
-
--- the number of those among one place more
-pub wrong_more : (list : List Float) (s : List ℕ) (k : ℕ) → k < length list → wrong_from 0 (take (k + 1) list) s ≡ wrong_from 0 (take k list) s + cond (shown (get_or list k nan) (big s (8 * k) 8)) 0 1
-wrong_more list s k h =
-    let le : k ≤ length list = omega arith in rw (add-one, take-suc list k nan h, wrong_append, length-take-le k list le, zero-add)
 
 weighted_append : (w : ℕ) (xs : List Float) (x : Float) → weighted w (xs ++ (x ∷ [])) ≡ weighted w xs + (w + 2 * length xs) * to_bits binary64 x
 unfolding weighted

@@ -1,7 +1,7 @@
 // The list that a call is lent.
 ghost use Rattle.std.specs.Prelude.{◌≡◌, ◌%◌, ◌^◌, length, replicate, from_bits};
 ghost use Rattle.std.specs.Float.{binary64};
-ghost use Rattle.cases.specs.Places.{loaded, shown, wrong_from, weighted};
+ghost use Rattle.cases.specs.Places.{loaded, shown, wrong_in, weighted};
 
 use crate::big_endian::u64_at;
 use std::num::{f64_from_bits_with_nan, f64_to_bits_with_nan};
@@ -35,17 +35,14 @@ pub fn is_shown(x: f64, bits: u64) -> bool
 }
 
 // How many places of the list do not hold the number that stands for them in `numbers`, eight bytes each.
-#[tactic(auto, using(crate::proofs::Places::wrong_more), unfolding(crate::specs::Places::wrong_from))]
+#[tactic(auto, unfolding(crate::specs::Places::wrong_in))]
 pub fn wrong_places(list: &[f64], numbers: &[u8]) -> u64
-    ensures { result ≡ wrong_from 0 list.now numbers.now }
+    ensures { result ≡ wrong_in list.now numbers.now }
 {
-    let mut wrong = 0;
-    for (k, x) in list.iter().enumerate() {
-        if !is_shown(*x, u64_at(numbers, 8 * k)) {
-            wrong += 1;
-        }
-    }
-    wrong
+    list.iter()
+        .enumerate()
+        .filter(|(k, x)| !is_shown(**x, u64_at(numbers, 8 * *k)))
+        .count() as u64
 }
 
 // The bits of each place k, counted from 0, times 2k + 1, added up modulo 2^64. The weights are odd, so that

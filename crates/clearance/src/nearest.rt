@@ -25,10 +25,7 @@ pub struct Near {
 fn stops(p: Point, bar: f64, k: usize, list: &[Segment]) -> bool
     ensures { result ≡ stops_at p bar k list.now }
 {
-    match list.get(k) {
-        Some(s) => straight_key(p, *s) <= bar,
-        None => false,
-    }
+    list.get(k).is_some_and(|s| straight_key(p, *s) <= bar)
 }
 
 // All segments from the first on, up to one that settles it.
@@ -77,13 +74,9 @@ fn stop_beside(p: Point, bar: f64, place: usize, list: &[Segment]) -> Option<usi
 fn stop_among(p: Point, bar: f64, list: &[Segment]) -> Option<usize>
     ensures { Stop p bar result list.now }
 {
-    for coedge in 0..=list.len() / COEDGE_POINTS {
-        let place = COEDGE_POINTS * coedge;
-        if stops(p, bar, place, list) {
-            return Some(place);
-        }
-    }
-    None
+    (0..=list.len() / COEDGE_POINTS)
+        .map(|coedge| COEDGE_POINTS * coedge)
+        .find(|place| stops(p, bar, *place, list))
 }
 
 // The place of a segment that stops, of those that are likely to. Where those in the places of `hints` stopped a grid

@@ -21,24 +21,18 @@ pub const NO_SEGMENT: Segment = Segment {
 };
 
 // The segment as it is laid: on a periodic chart its end moved by whole turns to be near its start.
-#[tactic(auto, unfolding(crate::specs::Clearance::laid, points::specs::Segments::gained))]
+#[tactic(auto, unfolding(crate::specs::Clearance::laid))]
 fn laid(period: Option<f64>, s: Segment) -> Segment
     ensures { result ≡ laid period s }
 {
     match period {
-        Some(period) => Segment {
-            b: Point {
-                u: s.b.u + points::whole_turns(s.a.u - s.b.u, period),
-                ..s.b
-            },
-            ..s
-        },
+        Some(period) => s.gained(period),
         None => s,
     }
 }
 
 // The segments of a ring over the front of `list`, whose tail keeps its contents; a list that is too
-// short for them stays as it is.
+// short for them stays as it is. (An index in a zip's place: of what is written through a zip, no clause of it speaks.)
 pub fn lay(period: Option<f64>, ring: &[Point], list: &mut [Segment])
     ensures { list.new ≡ over (map (laid period) (segments ring.now)) list.old }
 {

@@ -30,7 +30,8 @@ fn is_covered(band: bool, sense: Sense, n: i64) -> bool
     is_odd(n) && (!band || on_side(sense, n))
 }
 
-// Marks each grid point that its sum of windings covers. Both lists stand in the grid's order.
+// Marks each grid point that its sum of windings covers. Both lists stand in the grid's order. (An index in a zip's
+// place: of what is written through a zip, no clause of it speaks.)
 #[tactic(auto, using(std::proofs::lemmas::Int::ints, inside::proofs::Cells::cell_by_cell))]
 pub(crate) fn mark_windings(
     band: bool,

@@ -9,7 +9,7 @@ ghost use Rattle.coverage.specs.Lines.{Within};
 
 use crate::column_turns::ColumnTurns;
 use inside::{GRID_POINTS, just_one_above};
-use points::{Segment, part, segments, whole_turns};
+use points::{Segment, part, segments};
 use sheet::Point;
 
 // 1 where the segment from a to b goes up in u, else -1.
@@ -53,12 +53,8 @@ fn add_segment(period: f64, s: Segment, cells: &mut [i64; GRID_POINTS])
     requires { Within (2 ^ 62) cells.old }
     ensures { Holds (pos 0) 961 cells.new (λ (k : ℕ). get_or cells.old k (pos 0) +ℤ step_of period (by_columns k) s) }
 {
-    let far = s.b.u + whole_turns(s.a.u - s.b.u, period);
-    let moved = Segment {
-        a: s.a,
-        b: Point { u: far, v: s.b.v },
-    };
-    let mut turns = ColumnTurns::new(period, (s.a.u + far) / 2.0);
+    let moved = s.gained(period);
+    let mut turns = ColumnTurns::new(period, moved.middle());
     for i in 0..31u32 {
         turns.bring_to(i + 1);
         let from = 31 * (i as usize);

@@ -4,6 +4,9 @@
 -- transitive, whatever the last number is.
 use mathlib.Core.Path.{◌≡◌, refl, sym, subst, ◌∙◌}
 use mathlib.Core.Logic.{inl, inr}
+use Rattle.std.specs.Prelude.{Option, Some, None}
+use Rattle.std.specs.Bool.{⊤}
+use Rattle.std.specs.Option.{unwrap_or, MatchOption}
 use mathlib.Core.Bool.{Bool, true, false, not, xor, ◌&&◌}
 use Prim.Native.Nat.{ℕ, zero, suc, ◌+◌, ◌-◌, ◌*◌, ◌<◌, ◌≤◌}
 use native.Mathlib.Nat.{eq-or-lt_of_le, mul_right_comm, mul-le-mul_right, mul-lt-mul_of_pos_right, lt_of_mul-lt-mul_right}
@@ -106,35 +109,35 @@ module _ (x : Float) where
 
   -- ---- the count, from one nearby
 
-  module _ (count : ℕ) where
-    pub none_at_end : 31 ≤ count → count ≤ 31 → NoneAfter x count
-    none_at_end h k = record { most = k; none = λ m l n. absurd (omega arith) }
+  -- up to the first line that is not below x, or to the end
+  pub none_from : (near : ℕ) (found : Option ℕ)
+      → MatchOption found ((k : ℕ) → near ≤ k → k < 31 → ⊤) (λ i. (near ≤ i) × (i < 31) × (lt (part (i + 1)) x ≡ false) × ((k : ℕ) → near ≤ k → k < i → ⊤))
+      → NoneAfter x (unwrap_or found 31)
+  none_from near None h = record { most = omega arith; none = λ m l n. absurd (omega arith) }
+  none_from near (Some i) h = record { most = omega arith; none = λ m l n. later_above i m l n h.2 }
 
-    pub none_above : count < 31 → lt (part (count + 1)) x ≡ false → NoneAfter x count
-    none_above h e = record { most = omega arith; none = λ m l n. later_above count m l n e }
+  module _ (count : ℕ) (none : NoneAfter x count) where
+    pub none_lower : 0 < count → lt (part count) x ≡ false → NoneAfter x (count - 1)
+    none_lower h e =
+        let f : count ≡ count - 1 + 1 = omega arith in
+        let most = none.most in
+        record { most = omega arith; none = λ m l n. later_above (count - 1) m l n (rw (← f) e) }
 
-    module _ (none : NoneAfter x count) where
-      pub none_lower : 0 < count → lt (part count) x ≡ false → NoneAfter x (count - 1)
-      none_lower h e =
-          let f : count ≡ count - 1 + 1 = omega arith in
-          let most = none.most in
-          record { most = omega arith; none = λ m l n. later_above (count - 1) m l n (rw (← f) e) }
+    pub below_last : 0 < count → lt (part count) x ≡ true → Below x count
+    below_last h e = record { most = none.most; is = λ m l. by m l (dec_lt m count) }
+      where
+        by : (m : ℕ) → m < 31 → Dec (m < count) → lt (part (m + 1)) x ≡ ltb m count
+        by m l (yes p) =
+            let f : count ≡ count - 1 + 1 = omega arith in
+            let most = none.most in
+            first_below m (count - 1) (omega arith) (omega arith) (rw (← f) e) ∙ sym (lt-ltb m count p)
+        by m l (no p) = none.none m (omega arith) l ∙ sym (le-ltb m count (omega arith))
 
-      pub below_last : 0 < count → lt (part count) x ≡ true → Below x count
-      below_last h e = record { most = none.most; is = λ m l. by m l (dec_lt m count) }
-        where
-          by : (m : ℕ) → m < 31 → Dec (m < count) → lt (part (m + 1)) x ≡ ltb m count
-          by m l (yes p) =
-              let f : count ≡ count - 1 + 1 = omega arith in
-              let most = none.most in
-              first_below m (count - 1) (omega arith) (omega arith) (rw (← f) e) ∙ sym (lt-ltb m count p)
-          by m l (no p) = none.none m (omega arith) l ∙ sym (le-ltb m count (omega arith))
+    pub below_none : count ≤ 0 → Below x count
+    below_none h = record { most = none.most; is = λ m l. none.none m (omega arith) l ∙ sym (le-ltb m count (omega arith)) }
 
-      pub below_none : count ≤ 0 → Below x count
-      below_none h = record { most = none.most; is = λ m l. none.none m (omega arith) l ∙ sym (le-ltb m count (omega arith)) }
-
--- a loop over the lines, up or down
-pub ruleset line_by_line = (none_at_end, none_above, none_lower, below_last, below_none)
+-- a loop over the lines, down
+pub ruleset line_by_line = (none_lower, below_last, below_none)
 
 -- ---- the lines between two numbers
 

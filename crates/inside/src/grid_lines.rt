@@ -26,20 +26,15 @@ impl Counted {
 }
 
 // The first count from `near` up after which no line is below x.
-#[tactic(auto, using(crate::proofs::Ascending::line_by_line))]
 fn raised(near: u32, x: f64) -> u32
     ensures { NoneAfter x result }
 {
-    for count in near..31 {
-        let is_below = part(count + 1) < x;
-        if !is_below {
-            return count;
-        }
-    }
-    31
+    (near..31)
+        .find(|count| !(part(*count + 1) < x))
+        .unwrap_or(31)
 }
 
-// The first count from `most` down whose last line is below x.
+// The first count from `most` down whose last line is below x. (No `find`: the kit has no law of a range's `rev`.)
 #[tactic(auto, using(crate::proofs::Ascending::line_by_line))]
 fn lowered(most: u32, x: f64) -> u32
     requires { NoneAfter x most }

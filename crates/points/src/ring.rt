@@ -12,7 +12,7 @@ use crate::turns::turns;
 use leaves::constants::TAU;
 use sheet::{Kind, Point};
 
-// The points of a coedge.
+// The points of a coedge. (An index in a zip's place: of what is written through a zip, no clause of it speaks.)
 fn read_coedge(part: &[u8], points: &mut [Point])
     requires { length points.old ≡ 17 }
     ensures { points.new ≡ (coedge part.now).points }
@@ -115,7 +115,8 @@ pub fn normalise(least: Point, scale: Point, points: &mut [Point])
 }
 
 // Rule 5 of each point, over the front of `out`, whose tail keeps its contents; a list that is too short for them stays
-// as it is. It stands beside `normalise`, which changes its own list: no one borrow is both.
+// as it is. It stands beside `normalise`, which changes its own list: no one borrow is both. (An index in a zip's
+// place: of what is written through a zip, no clause of it speaks.)
 pub fn normalise_into(least: Point, scale: Point, points: &[Point], out: &mut [Point])
     ensures { out.new ≡ over (map (normal least.u least.v scale.u scale.v) points.now) out.old }
 {

@@ -1,8 +1,10 @@
 // What joins two points (rule 6), and a ring's segments, one after the other.
 ghost use Rattle.std.specs.Prelude.{◌≡◌};
 ghost use Rattle.std.specs.Iterator.{YieldsFirst, item_count};
-ghost use Rattle.points.specs.Segments.{segments, segments_left};
+ghost use Rattle.sheet.specs.Content.{point};
+ghost use Rattle.points.specs.Segments.{segments, segments_left, segment, gained, middle};
 
+use crate::turns::turns;
 use sheet::Point;
 
 // From a to b.
@@ -14,6 +16,29 @@ pub struct Between<A> {
 
 // Between two points of the chart.
 pub type Segment = Between<Point>;
+
+impl Between<Point> {
+    // On a periodic chart: b's u gains the whole turns that bring it nearest to a's.
+    #[tactic(auto, unfolding(crate::specs::Segments::gained))]
+    pub fn gained(self, period: f64) -> Segment
+        ensures { result ≡ segment self.a (point (gained period self) self.b.v) }
+    {
+        Between {
+            a: self.a,
+            b: Point {
+                u: self.b.u + turns(self.a.u - self.b.u, period),
+                v: self.b.v,
+            },
+        }
+    }
+
+    // The u in the middle.
+    pub fn middle(self) -> f64
+        ensures { result ≡ middle self.a.u self.b.u }
+    {
+        (self.a.u + self.b.u) / 2.0
+    }
+}
 
 // The segments of a ring that are left: from each point of the rest to the next, and from the last to the ring's first.
 #[derive(Clone, Copy)]

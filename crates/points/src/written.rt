@@ -17,7 +17,8 @@ pub fn phase_angle(phase: Phase) -> f64
 }
 
 // Each moved point (u, v - phase) over the front of `out`, whose tail keeps its contents; a list that is too
-// short for them stays as it is.
+// short for them stays as it is. (Indices, and no zip with `chunks_exact_mut`: of what is written through a zip, no
+// clause of it speaks.)
 pub fn write(phase: Phase, points: &[Point], out: &mut [f64])
     ensures { out.new ≡ over (flat (map (written_point phase) points.now)) out.old }
 {

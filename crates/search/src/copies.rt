@@ -15,7 +15,7 @@ use sheet::Point;
 fn copy_at(period: f64, u: f64, s: Segment) -> Segment
     ensures { result ≡ shifted_to period u s }
 {
-    let offset = points::whole_turns(u - (s.a.u + s.b.u) / 2.0, period);
+    let offset = points::whole_turns(u - s.middle(), period);
     Segment {
         a: Point {
             u: s.a.u + offset,
@@ -49,9 +49,7 @@ fn are_same(x: Segment, y: Segment) -> bool
 fn is_regular(period: f64, s: Segment) -> bool
     ensures { result ≡ regular period s }
 {
-    points::keeps_order(period, (s.a.u + s.b.u) / 2.0)
-        && points::is_number(s.a.u)
-        && points::is_number(s.b.u)
+    points::keeps_order(period, s.middle()) && points::is_number(s.a.u) && points::is_number(s.b.u)
 }
 
 // The copy of a segment at a column.

@@ -5,7 +5,6 @@ use Prim.Native.Nat.{◌+◌, ◌-◌, ◌*◌}
 use native.Mathlib.Omega.{arith}
 use lib.IntN.{pos}
 use lib.ListN.{length, take, drop, length-take, length-drop}
-use Rattle.points.specs.Segments.{gained}
 use Rattle.inside.proofs.Cells.{none_changed, in_line, line_changed, all_changed}
 use Rattle.coverage.proofs.Columns.{step_in_column}
 use Rattle.coverage.proofs.winding.add_segment.Invariants.{plus}
@@ -17,7 +16,7 @@ loop-i-init c =
     record {
       added = none_changed (pos 0) 961 (plus x.period x.s) x.cells.now c.told-cells;
       same_period = c.new-turns.ensures.0;
-      same_mid = c.new-turns.ensures.1;
+      same_mid = c.new-turns.ensures.1 ∙ c.middle.ensures;
       at_hand = omega arith;
     }
 
@@ -32,7 +31,6 @@ add_column-requires c =
     rw (column, whole) (refl, λ m h. rw (in_line (pos 0) 961 change x.cells.now (31 * i) c.loop-i.cells added 31 m h) (c.requires (31 * i + m) (omega (arith, c.told-cells))))
 
 pub loop-i-preserved : goal.loop-i-preserved
-unfolding gained
 loop-i-preserved c =
     let x = c.args in
     let i = c.loop-i.i in
@@ -44,7 +42,7 @@ loop-i-preserved c =
     record {
       added = rw column
           (line_changed (pos 0) 961 change x.cells.now (31 * i) c.loop-i.cells inv.added 31 (31 * (i + 1)) (omega arith) (omega arith) _ _ (rw column at c.add_column.ensures)
-          (λ m h. rw (in_line (pos 0) 961 change x.cells.now (31 * i) c.loop-i.cells inv.added 31 m h, step_in_column x.period x.s i m h, c.part.ensures, ← copy, c.turns.ensures)));
+          (λ m h. rw (in_line (pos 0) 961 change x.cells.now (31 * i) c.loop-i.cells inv.added 31 m h, step_in_column x.period x.s i m h, c.part.ensures, ← copy, c.gained-moved.ensures)));
       same_period = r.ensures.0 ∙ inv.same_period;
       same_mid = r.ensures.1 ∙ inv.same_mid;
       at_hand = omega arith;
