@@ -20,85 +20,98 @@ pub struct Near {
     pub place: usize,
 }
 
-// Whether there is a segment in place k whose key is not above `bar`.
-#[tactic(auto, unfolding(crate::specs::Nearest::stops_at))]
-fn stops(p: Point, bar: f64, k: usize, list: &[Segment]) -> bool
-    ensures { result ≡ stops_at p bar k list.now }
-{
-    list.get(k).is_some_and(|s| straight_key(p, *s) <= bar)
+// What is asked of segments: whether a segment's key from p is not above `bar`.
+#[derive(Clone, Copy)]
+struct Asked<'a> {
+    p: Point,
+    bar: f64,
+    list: &'a [Segment],
 }
 
-// All segments from the first on, up to one that settles it.
-fn scan(p: Point, bar: f64, list: &[Segment]) -> Near
-    ensures { result.key ≡ larger_of bar (least_key p (inf false) list.now) }
-{
-    let mut least = f64::INFINITY;
-    let mut place = 0;
-    for (k, s) in list.iter().enumerate() {
-        let key = straight_key(p, *s);
-        if key < least {
-            if key <= bar {
-                return Near { key: bar, place: k };
+impl<'a> Asked<'a> {
+    // Whether there is a segment in place k whose key is not above `bar`.
+    #[tactic(auto, unfolding(crate::specs::Nearest::stops_at))]
+    fn stops(self, k: usize) -> bool
+        ensures { result ≡ stops_at self.entry.p self.entry.bar k self.entry.list.now }
+    {
+        self.list
+            .get(k)
+            .is_some_and(|s| straight_key(self.p, *s) <= self.bar)
+    }
+
+    // All segments from the first on, up to one that settles it.
+    fn scan(self) -> Near
+        ensures { result.key ≡ larger_of self.entry.bar (least_key self.entry.p (inf false) self.entry.list.now) }
+    {
+        let bar = self.bar;
+        let mut least = f64::INFINITY;
+        let mut place = 0;
+        for (k, s) in self.list.iter().enumerate() {
+            let key = straight_key(self.p, *s);
+            if key < least {
+                if key <= bar {
+                    return Near { key: bar, place: k };
+                }
+                least = key;
+                place = k;
             }
-            least = key;
-            place = k;
+        }
+        Near {
+            key: leaves::larger_of(bar, least),
+            place,
         }
     }
-    Near {
-        key: leaves::larger_of(bar, least),
-        place,
-    }
-}
 
-// The place of a segment beside the one in `place`, eight, four, two or one before or behind it, that stops. One
-// from further on stops more of the rows that follow. It is kept out of the scan's code: in line it was slower by 3 %.
-#[inline(never)]
-fn stop_beside(p: Point, bar: f64, place: usize, list: &[Segment]) -> Option<usize>
-    ensures { Stop p bar result list.now }
-{
-    if list.len() <= place {
-        return None;
-    }
-    for d in [8, 4, 2, 1] {
-        if stops(p, bar, place + d, list) {
-            return Some(place + d);
+    // The place of a segment beside the one in `place`, eight, four, two or one before or behind it, that stops. One
+    // from further on stops more of the rows that follow. It is kept out of the scan's code: in line it was slower by 3 %.
+    #[inline(never)]
+    fn stop_beside(self, place: usize) -> Option<usize>
+        ensures { Stop self.entry.p self.entry.bar result self.entry.list.now }
+    {
+        if self.list.len() <= place {
+            return None;
         }
-        if d <= place && stops(p, bar, place - d, list) {
-            return Some(place - d);
+        for d in [8, 4, 2, 1] {
+            if self.stops(place + d) {
+                return Some(place + d);
+            }
+            if d <= place && self.stops(place - d) {
+                return Some(place - d);
+            }
         }
-    }
-    None
-}
-
-// The place of a segment that stops, of the first of each coedge.
-fn stop_among(p: Point, bar: f64, list: &[Segment]) -> Option<usize>
-    ensures { Stop p bar result list.now }
-{
-    (0..=list.len() / COEDGE_POINTS)
-        .map(|coedge| COEDGE_POINTS * coedge)
-        .find(|place| stops(p, bar, *place, list))
-}
-
-// The place of a segment that stops, of those that are likely to. Where those in the places of `hints` stopped a grid
-// point nearby, they do again, or one beside them does. The scan of a face of four coedges is so short that nothing
-// else is asked before it.
-fn likely_stop(p: Point, bar: f64, hints: [usize; 2], list: &[Segment]) -> Option<usize>
-    ensures { Stop p bar result list.now }
-{
-    for place in hints {
-        if stops(p, bar, place, list) {
-            return Some(place);
-        }
-    }
-    for place in hints {
-        if let Some(beside) = stop_beside(p, bar, place, list) {
-            return Some(beside);
-        }
-    }
-    if list.len() <= FEW_SEGMENTS {
         None
-    } else {
-        stop_among(p, bar, list)
+    }
+
+    // The place of a segment that stops, of the first of each coedge.
+    fn stop_among(self) -> Option<usize>
+        ensures { Stop self.entry.p self.entry.bar result self.entry.list.now }
+    {
+        (0..=self.list.len() / COEDGE_POINTS)
+            .map(|coedge| COEDGE_POINTS * coedge)
+            .find(|place| self.stops(*place))
+    }
+
+    // The place of a segment that stops, of those that are likely to. Where those in the places of `hints` stopped a grid
+    // point nearby, they do again, or one beside them does. The scan of a face of four coedges is so short that nothing
+    // else is asked before it.
+    fn likely_stop(self, hints: [usize; 2]) -> Option<usize>
+        ensures { Stop self.entry.p self.entry.bar result self.entry.list.now }
+    {
+        for place in hints {
+            if self.stops(place) {
+                return Some(place);
+            }
+        }
+        for place in hints {
+            if let Some(beside) = self.stop_beside(place) {
+                return Some(beside);
+            }
+        }
+        if self.list.len() <= FEW_SEGMENTS {
+            None
+        } else {
+            self.stop_among()
+        }
     }
 }
 
@@ -106,8 +119,9 @@ fn likely_stop(p: Point, bar: f64, hints: [usize; 2], list: &[Segment]) -> Optio
 pub fn nearest(p: Point, bar: f64, hints: [usize; 2], list: &[Segment]) -> Near
     ensures { result.key ≡ larger_of bar (least_key p (inf false) list.now) }
 {
-    match likely_stop(p, bar, hints, list) {
+    let asked = Asked { p, bar, list };
+    match asked.likely_stop(hints) {
         Some(place) => Near { key: bar, place },
-        None => scan(p, bar, list),
+        None => asked.scan(),
     }
 }

@@ -3,7 +3,7 @@ use mathlib.Core.Bool.{false}
 use lib.Ieee.{inf}
 use lib.ListN.{drop}
 use Rattle.clearance.specs.Nearest.{least_key}
-use Rattle.clearance.proofs.nearest.scan.Given as goal
+use Rattle.clearance.proofs.nearest.Asked.scan.Given as goal
 
 abbrev pub invariant-loop-k : goal.invariant-loop-k
-invariant-loop-k l = least_key l.p l.least (drop l.k l.list) ≡ least_key l.p (inf false) l.list
+invariant-loop-k l = least_key l.self.p l.least (drop l.k l.self.list.now) ≡ least_key l.self.p (inf false) l.self.list.now
