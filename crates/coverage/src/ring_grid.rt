@@ -11,7 +11,7 @@ use crate::winding::add_ring;
 use inside::GRID_POINTS;
 use sheet::Point;
 
-// Zeros in every place.
+// Zeros in every place: std's `fill`, whose clauses are those of any type, said of i64.
 pub fn clear(numbers: &mut [i64])
     ensures { numbers.new ≡ replicate (length numbers.old) (pos 0) }
 {
