@@ -39,6 +39,12 @@ odd_same n = let e : n + 0 ≡ n = omega arith in rw e (at (eqb (n % 2) 1))
     at false = refl
 
 module _ (band : Bool) (sense : ℕ) where
+  -- one ring covers what 1 crossing does, and no ring nothing
+  pub one_or_none : (t : Bool) → covered_by band sense (one_of t) ≡ cond t (covered_by band sense (pos 1)) false
+  unfolding covered_by oddℤ
+  one_or_none true = refl
+  one_or_none false = refl
+
   covered_odd : (n : ℕ) (t : Bool) → t ≡ oddℤ (pos n) → covered_by band sense (pos n) ≡ covered_by band sense (one_of t)
   unfolding covered_by oddℤ on_side
   covered_odd n true e =

@@ -18,7 +18,7 @@ use sheet::{MOST_POINTS, Sense};
 
 // At most so many rings are looked at, more than a sheet can have, and as many points as the largest sheet has. So no
 // sum of windings overflows.
-const MOST_RINGS: usize = 256;
+const RINGS_LOOKED_AT: usize = 256;
 
 // The rings that are looked at.
 #[tactic(auto, using(std::proofs::lemmas::List::take_min))]
@@ -26,7 +26,7 @@ fn looked_at(rings: Rings) -> Rings
     ensures { (result.points.now ≡ take 2176 rings.entry.points.now) × (result.ends.now ≡ take 256 rings.entry.ends.now) }
 {
     let points = MOST_POINTS.min(rings.points.len());
-    let ends = MOST_RINGS.min(rings.ends.len());
+    let ends = RINGS_LOOKED_AT.min(rings.ends.len());
     Rings {
         points: &rings.points[..points],
         ends: &rings.ends[..ends],

@@ -9,6 +9,6 @@ mod ring_grid;
 mod winding;
 
 pub use covering::cover;
-// `inside` stands in the crate of that name, and is exported here as before.
+// `inside` stands in the crate of that name; it is a part of rule 7, so it is found here, too.
 pub use inside::inside;
 pub use ring_grid::{clear, crossing_grid};

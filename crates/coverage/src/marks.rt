@@ -49,16 +49,33 @@ pub(crate) fn mark_windings(
 // The place, where a row's points stand side by side, of the grid point after the one in place `at`: a
 // row further, and after the last row in the first one again, a point further. Each place worked out by divisions,
 // as `in_rows` has it, makes a small plane's grid a quarter slower.
-pub(crate) fn next_row(at: usize) -> usize
+fn next_row(at: usize) -> usize
     requires { at < 961 }
     ensures { (k : ℕ) → k < 961 → at ≡ in_rows k → result ≡ in_rows (k + 1) }
 {
     if at < 930 { at + 31 } else { at - 929 }
 }
 
-// Marks each grid point that is covered by 1 crossing where its cell says yes, by none where it says no. The cells
-// stand row after row, the marks in the grid's order.
-#[tactic(auto, using(std::proofs::lemmas::Int::ints, inside::proofs::Cells::cell_by_cell))]
+// One of two values for each cell, as it says yes or no. The cells stand row after row, the values in the grid's order.
+#[tactic(auto, using(inside::proofs::Cells::cell_by_cell))]
+pub(crate) fn from_rows<T: Copy>(
+    cells: &[bool; GRID_POINTS],
+    yes: T,
+    no: T,
+    values: &mut [T; GRID_POINTS],
+)
+    ensures { Holds no 961 values.new (λ (k : ℕ). cond (get_or cells.now (in_rows k) false) yes no) }
+{
+    let mut at = 0;
+    for value in values.iter_mut() {
+        *value = if cells[at] { yes } else { no };
+        at = next_row(at);
+    }
+}
+
+// Marks each grid point that is covered by 1 crossing where its cell says yes, by none, which cover nothing, where it
+// says no. The cells stand row after row, the marks in the grid's order.
+#[tactic(auto, using(crate::proofs::Parity::one_or_none))]
 pub(crate) fn mark_flips(
     band: bool,
     sense: Sense,
@@ -67,9 +84,5 @@ pub(crate) fn mark_flips(
 )
     ensures { Holds false 961 covered.new (λ (k : ℕ). covered_by band sense (cond (get_or cells.now (in_rows k) false) (pos 1) (pos 0))) }
 {
-    let mut at = 0;
-    for mark in covered.iter_mut() {
-        *mark = is_covered(band, sense, i64::from(cells[at]));
-        at = next_row(at);
-    }
+    from_rows(cells, is_covered(band, sense, 1), false, covered);
 }

@@ -1,34 +1,20 @@
 // Rule 7 on one ring, over the whole grid: the ring's crossings at every grid point, whatever the chart's kind.
-ghost use Rattle.std.specs.Prelude.{◌≡◌, false, cond, ℕ, pos, length, get_or, replicate};
+ghost use Rattle.std.specs.Prelude.{◌≡◌, cond, ℕ, pos, length, replicate};
 ghost use Rattle.answers.specs.Lists.{over};
 ghost use Rattle.points.specs.Grid.{grid_of, grid_point};
 ghost use Rattle.inside.specs.Inside.{inside_of};
-ghost use Rattle.inside.specs.Lines.{Holds, in_rows};
 ghost use Rattle.coverage.specs.Coverage.{winding_of, crossing};
 
-use crate::marks::next_row;
+use crate::marks::from_rows;
 use crate::winding::add_ring;
 use inside::GRID_POINTS;
 use sheet::Point;
 
-// Zeros in every place.
+// Zeros in every place: std's `fill`, whose clauses are those of any type, said of i64.
 pub fn clear(numbers: &mut [i64])
     ensures { numbers.new ≡ replicate (length numbers.old) (pos 0) }
 {
     numbers.fill(0);
-}
-
-// 1 for each cell that says yes and 0 for any other, from rows into the grid's order. `mark_flips` goes so, too: one
-// function for both would take what becomes of a cell as a closure, and say of the numbers only what it may have given.
-#[tactic(auto, using(inside::proofs::Cells::cell_by_cell))]
-fn count_cells(cells: &[bool; GRID_POINTS], crossings: &mut [i64; GRID_POINTS])
-    ensures { Holds (pos 0) 961 crossings.new (λ (k : ℕ). cond (get_or cells.now (in_rows k) false) (pos 1) (pos 0)) }
-{
-    let mut at = 0;
-    for count in crossings.iter_mut() {
-        *count = i64::from(cells[at]);
-        at = next_row(at);
-    }
 }
 
 // The crossings of a ring on a chart that is not periodic: 1 inside and 0 outside.
@@ -37,7 +23,7 @@ fn inside_grid(ring: &[Point], crossings: &mut [i64; GRID_POINTS])
 {
     let mut cells = [false; GRID_POINTS];
     inside::flip_ring(ring, &mut cells);
-    count_cells(&cells, crossings);
+    from_rows(&cells, 1, 0, crossings);
 }
 
 // The crossings of a ring on a periodic chart: its winding.

@@ -47,8 +47,8 @@ fn add_column(s: Segment, w: f64, column: &mut [i64])
     }
 }
 
-// Adds the crossings of a segment, column by column, which go by their numbers, of which the definitions speak. The cells
-// stand in the grid's order, those of a column side by side.
+// Adds the crossings of a segment, column by column. Columns go by their numbers, of which the definitions speak; the
+// cells stand in the grid's order, those of a column side by side.
 fn add_segment(period: f64, s: Segment, cells: &mut [i64; GRID_POINTS])
     requires { Within (2 ^ 62) cells.old }
     ensures { Holds (pos 0) 961 cells.new (λ (k : ℕ). get_or cells.old k (pos 0) +ℤ step_of period (by_columns k) s) }

@@ -23,8 +23,8 @@ fn flip(cells: &mut [bool])
     }
 }
 
-// What the edge from b to a flips in the rows after the first `low`, up to `high` of them. The cells of
-// a row stand side by side.
+// What the edge from b to a flips in the rows after the first `low`, up to `high` of them. Rows go by their numbers, of
+// which the definitions speak; the cells of a row stand side by side.
 fn flip_rows(edge: Segment, low: u32, high: u32, cells: &mut [bool; GRID_POINTS])
     requires { Parted edge.a.v edge.b.v low high }
     ensures { Holds false 961 cells.new (λ (k : ℕ). xor (get_or cells.old k false) (flips (by_rows k) edge.a edge.b)) }

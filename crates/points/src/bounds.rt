@@ -35,7 +35,7 @@ impl Box {
 pub fn box_of(points: &[Point]) -> Box
     ensures { result ≡ box_of points.now }
 {
-    let infinity = 1.0 / 0.0;
+    let infinity = f64::INFINITY;
     let mut found = Box {
         least: Point {
             u: infinity,

@@ -39,7 +39,8 @@ pub fn put_hex(n: u64, at: usize, page: &mut [u8]) -> usize
     put_bytes(&hex(n), at, page)
 }
 
-// The bits of x; of a NaN those of the quiet NaN.
+// The bits of x; of a NaN those of the quiet NaN. It gives std's function a plain name: std's plain one, `to_bits`,
+// promises nothing of a NaN.
 pub fn bits_of(x: f64) -> u64
     ensures { result ≡ to_bits binary64 x }
 {

@@ -22,7 +22,7 @@ unfolding by_columns
 returns c =
     let ring = c.args.ring.now in
     let flipped = flipped_cells ring (replicate 961 false) (length-replicate 961 false) c.flip_ring.ensures in
-    let counts = c.count_cells.ensures in
+    let counts = c.from_rows.ensures in
     all_grid (pos 0) _ (λ i j. cond (inside_of ring (grid_point i j)) (pos 1) (pos 0)) (record {
       count = counts.count;
       is = λ k h. counts.is k h ∙ rw (flipped.is (in_rows k) (omega arith), get_or-replicate 961 (in_rows k) false false (omega arith), flipped_no, same_point k h);

@@ -1,6 +1,6 @@
 -- `points::bounds::box_of` is the box of the points, one by one.
 use Rattle.std.proofs.Common.{refl, ap, ◌∙◌, arith}
-use lib.Ieee.{neg, div, of_bits}
+use lib.Ieee.{neg, of_bits}
 use Rattle.std.proofs.lemmas.List.{take_all}
 use Rattle.std.specs.List.{fold}
 use Rattle.points.specs.Bounds.{with_point}
@@ -8,7 +8,7 @@ use Rattle.points.proofs.Axes.{empty_box, box_found}
 use Rattle.points.proofs.bounds.box_of.Goals as goal
 
 pub loop-p-init : goal.loop-p-init
-unfolding div neg of_bits
+unfolding neg of_bits
 loop-p-init c = refl
 
 pub returns : goal.returns
