@@ -94,7 +94,7 @@ pub fn unroll(kind: Kind, phase: Phase, points: &mut [Point])
     }
 }
 
-// Rule 5: (coordinate - least) / scale.
+// Rule 5: (coordinate - least) / scale, two points of the chart. (A frame holds both, in a crate above.)
 #[tactic(auto, unfolding(crate::specs::Normalise::normal))]
 fn normal(least: Point, scale: Point, p: Point) -> Point
     ensures { result ≡ normal least.u least.v scale.u scale.v p }
