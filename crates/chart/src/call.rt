@@ -34,7 +34,7 @@ fn chart_within<const N: usize>(s: &[u8], phase: Phase, points: &mut [f64]) -> A
     let mut moved_room = [ORIGIN; N];
     let mut ends_room = [0usize; sheet::MOST_RINGS];
     let moved = &mut moved_room[..frame::point_count(s)];
-    let ends = &mut ends_room[..sheet::byte_at(s, 7) as usize];
+    let ends = &mut ends_room[..sheet::ring_count(s)];
     let found = find(s, phase, moved, ends)?;
     points::write(phase, moved, points);
     Ok(values(found, phase))

@@ -32,6 +32,6 @@ pub fn point_count(s: &[u8]) -> usize
     ensures { result ≡ point_count (sheet_of s.now) }
 {
     sheet::ring_blocks(s)
-        .map(|block| sheet::COEDGE_POINTS * sheet::byte_at(block, 0) as usize)
+        .map(|block| sheet::point_count(block))
         .sum()
 }

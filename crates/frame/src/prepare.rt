@@ -27,7 +27,7 @@ pub(crate) fn prepare(s: &[u8], phase: Phase, points: &mut [Point], ends: &mut [
     let kind = sheet::kind_of(s);
     let mut from = 0;
     for (k, block) in sheet::ring_blocks(s).enumerate() {
-        let to = from + sheet::COEDGE_POINTS * sheet::byte_at(block, 0) as usize;
+        let to = from + sheet::point_count(block);
         move_ring(kind, phase, block, &mut points[from..to]);
         ends[k] = to;
         from = to;

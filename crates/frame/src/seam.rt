@@ -17,9 +17,7 @@ use sheet::Point;
 fn is_fitting(s: &[u8], points: usize, ends: usize) -> bool
     ensures { result ≡ fitting (sheet_of s.now) points ends }
 {
-    points == point_count(s)
-        && ends == sheet::byte_at(s, 7) as usize
-        && points <= sheet::MOST_POINTS
+    points == point_count(s) && ends == sheet::ring_count(s) && points <= sheet::MOST_POINTS
 }
 
 // Lays the moved points of all rings, one ring behind the other, into `points`, and where each ring's end into

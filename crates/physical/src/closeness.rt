@@ -17,7 +17,7 @@ fn any_ring_near(s: &[u8], reach: Reach, p: Place, images: &[f64]) -> bool
 {
     let mut rest = images;
     for block in sheet::ring_blocks(s) {
-        let count = 3 * sheet::COEDGE_POINTS * sheet::byte_at(block, 0) as usize;
+        let count = 3 * sheet::point_count(block);
         let (ring, behind) = rest.split_at(count.min(rest.len()));
         if reach.is_ring_near(p, Places { list: ring }) {
             return true;

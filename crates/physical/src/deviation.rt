@@ -10,7 +10,7 @@ fn larger_deviation(most: f64, block: &[u8]) -> f64
     ensures { result ≡ deviates most (ring block.now) }
 {
     sheet::coedges(block).fold(most, |found, coedge| {
-        leaves::larger_of(found, sheet::number(coedge, 0))
+        leaves::larger_of(found, sheet::deviation(coedge))
     })
 }
 

@@ -42,7 +42,7 @@ fn image_within<const N: usize>(s: &[u8], phase: Phase, images: &[f64]) -> Answe
     let mut moved_room = [ORIGIN; N];
     let mut ends_room = [0usize; sheet::MOST_RINGS];
     let moved = &mut moved_room[..frame::point_count(s)];
-    let ends = &mut ends_room[..sheet::byte_at(s, 7) as usize];
+    let ends = &mut ends_room[..sheet::ring_count(s)];
     let found = find(s, phase, moved, ends)?;
     let last = place_at(images, images.len() - 3);
     answer_at(physical::too_close(s, last, images), last, found.best)
@@ -71,7 +71,7 @@ fn plane_within<const N: usize>(s: &[u8]) -> Answer
     let mut moved_room = [ORIGIN; N];
     let mut ends_room = [0usize; sheet::MOST_RINGS];
     let moved = &mut moved_room[..frame::point_count(s)];
-    let ends = &mut ends_room[..sheet::byte_at(s, 7) as usize];
+    let ends = &mut ends_room[..sheet::ring_count(s)];
     let phase = Phase::from(0u32);
     let found = find(s, phase, moved, ends)?;
     let p = physical::place_on(s, found.point(phase));

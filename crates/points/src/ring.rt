@@ -27,8 +27,7 @@ fn read_coedge(part: &[u8], points: &mut [Point])
 pub fn read(block: &[u8], points: &mut [Point])
     ensures { points.new ≡ over (ring_points (ring block.now)) points.old }
 {
-    let count = sheet::byte_at(block, 0) as usize;
-    if points.len() < sheet::COEDGE_POINTS * count {
+    if points.len() < sheet::point_count(block) {
         return;
     }
     for (k, part) in sheet::coedges(block).enumerate() {

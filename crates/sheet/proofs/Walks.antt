@@ -1,19 +1,18 @@
 -- The checks of the ring blocks, a step at a time.
 use mathlib.Core.Path.{◌≡◌, refl, sym, ap, ap₂, ◌∙◌}
-use mathlib.Core.Bool.{Bool, true, false, not, ◌&&◌, ◌||◌}
+use mathlib.Core.Bool.{Bool, true, false, ◌&&◌, ◌||◌}
 use mathlib.Core.List.{List, [], ◌∷◌, map, foldl}
 use Prim.Native.Nat.{ℕ, suc, ◌+◌, ◌-◌, ◌≤◌, ◌<◌}
 use native.Mathlib.Omega.{arith}
 use lib.Dec.{leb, ltb, eqb}
 use lib.ListN.{length, get_or, take, drop}
 use lib.Seq.{drop-drop}
-use lib.Ieee.{Float, le, lt}
+use lib.Ieee.{Float}
 use borrow.Author.Tests.{eq-eqb, ne_eqb, le-leb, lt-leb}
-use Rattle.leaves.specs.Constants.{plus_zero, deviation_limit}
 use Rattle.sheet.specs.Content.{Coedge}
 use Rattle.answers.specs.Lists.{any_of}
-use Rattle.sheet.specs.Layout.{kind, plane, number, numbers, coedge, ring, block_size}
-use Rattle.sheet.specs.Checks.{fill, empty, coordinate_limit, axis_limit, point_wrong, plane_wrong, coedge_wrong, coedges_wrong}
+use Rattle.sheet.specs.Layout.{kind, plane, numbers, ring, block_size}
+use Rattle.sheet.specs.Checks.{fill, empty, coordinate_limit, axis_limit, plane_wrong, coedges_wrong}
 use Rattle.answers.specs.Limits.{beyond}
 use Rattle.sheet.proofs.Blocks.{ring_length}
 
@@ -22,16 +21,6 @@ one_less n k h = omega arith
 
 none_left : (n k : ℕ) → n ≤ k → n - k ≡ 0
 none_left n k h = omega arith
-
--- ---- what stands first in a coedge
-
-pub deviation_is : (s : List ℕ) → (coedge s).deviation ≡ number s
-unfolding coedge
-deviation_is s = refl
-
-pub coedge_is : (s : List ℕ) → coedge_wrong (coedge s) ≡ (not (le plus_zero (number s) && lt (number s) deviation_limit) || any_of point_wrong (coedge s).points)
-unfolding coedge_wrong coedge
-coedge_is s = refl
 
 -- ---- the plane: nine numbers, of which the first three are the origin
 

@@ -1,6 +1,6 @@
 // The fields of a sheet of version 1.
-ghost use Rattle.std.specs.Prelude.{◌≡◌, ◌+◌, ◌<◌, ◌≤◌, length, get_or, take, drop};
-ghost use Rattle.sheet.specs.Layout.{big, number as number_at, number_of, kind, sense, head_size, block_size};
+ghost use Rattle.std.specs.Prelude.{◌≡◌, ◌+◌, ◌*◌, ◌<◌, ◌≤◌, length, get_or, take, drop};
+ghost use Rattle.sheet.specs.Layout.{big, number as number_at, number_of, kind, sense, ring_count, coedge, head_size, block_size};
 
 use crate::kind::Kind;
 use crate::sense::Sense;
@@ -77,6 +77,13 @@ pub fn sense_of(s: &[u8]) -> Sense
     Sense::from(byte_at(s, 6))
 }
 
+// How many rings the surface has.
+pub fn ring_count(s: &[u8]) -> usize
+    ensures { result ≡ ring_count s.now }
+{
+    byte_at(s, 7) as usize
+}
+
 // How many bytes stand before the ring blocks: a plane has nine numbers there.
 #[tactic(auto, unfolding(crate::specs::Layout::head_size))]
 pub fn head_size(kind: Kind) -> usize
@@ -91,4 +98,20 @@ pub(crate) fn block_size(s: &[u8]) -> usize
     ensures { result ≡ block_size s.now }
 {
     BLOCK_HEAD + COEDGE_SIZE * byte_at(s, 0) as usize
+}
+
+// How many points the ring of a block has. A byte counts its coedges, so they are few.
+pub fn point_count(block: &[u8]) -> usize
+    ensures count { result ≡ 17 * get_or block.now 0 0 }
+    ensures most { result ≤ 4335 }
+{
+    COEDGE_POINTS * byte_at(block, 0) as usize
+}
+
+// The deviation that a coedge begins with.
+#[tactic(auto, unfolding(crate::specs::Layout::coedge))]
+pub fn deviation(part: &[u8]) -> f64
+    ensures { result ≡ (coedge part.now).deviation }
+{
+    number(part, 0)
 }

@@ -13,8 +13,8 @@ mod walk;
 
 pub use checks::check;
 pub use fields::{
-    COEDGE_POINTS, MOST_COEDGES, MOST_POINTS, MOST_RINGS, SMALL_POINTS, byte_at, head_size,
-    kind_of, number, sense_of,
+    COEDGE_POINTS, MOST_COEDGES, MOST_POINTS, MOST_RINGS, SMALL_POINTS, byte_at, deviation,
+    head_size, kind_of, number, point_count, ring_count, sense_of,
 };
 pub use kind::Kind;
 pub use parts::{BlockCoedges, CoedgePoints, RingBlocks, coedges, points, ring_blocks};

@@ -7,7 +7,7 @@ ghost use Rattle.answers.specs.Limits.{beyond};
 ghost use Rattle.sheet.specs.Layout.{blocks, ring, coedge, numbers};
 ghost use Rattle.sheet.specs.Checks.{fill, coedge_wrong, point_wrong, ring_wrong, coedges_wrong};
 
-use crate::fields::{MOST_COEDGES, block_size, byte_at, number};
+use crate::fields::{MOST_COEDGES, block_size, byte_at, deviation, number};
 use crate::parts::{coedges, points, ring_blocks};
 use crate::point::Point;
 use answers::is_beyond;
@@ -41,10 +41,11 @@ fn is_deviation(x: f64) -> bool
 }
 
 // Check 7 of a coedge, which is a part of the sheet.
+#[tactic(auto, unfolding(crate::specs::Checks::coedge_wrong))]
 fn coedge_wrong(part: &[u8]) -> bool
     ensures { result ≡ coedge_wrong (coedge part.now) }
 {
-    !is_deviation(number(part, 0)) || points(part).any(point_wrong)
+    !is_deviation(deviation(part)) || points(part).any(point_wrong)
 }
 
 // Check 7 of a ring, whose block is a part of the sheet.

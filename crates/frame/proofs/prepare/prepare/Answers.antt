@@ -1,6 +1,6 @@
 -- `frame::prepare::prepare` moves every ring in its part of the list and notes where it ends. The invariant: the rings
 -- before the next block are moved, and the lists have room for just those that are left.
-use Rattle.std.proofs.Common.{◌≡◌, ◌+◌, ◌*◌, sym, ap, ◌∙◌, arith, inl, length, map, ℕ}
+use Rattle.std.proofs.Common.{◌≡◌, ◌+◌, sym, ap, ◌∙◌, arith, inl, length, map, ℕ}
 use mathlib.Core.List.{flatten}
 use Rattle.sheet.specs.Layout.{blocks, sheet_of}
 use Rattle.sheet.proofs.Blocks.{blocks_most}
@@ -24,12 +24,12 @@ loop-k-init c =
 pub slice_bounds-move_ring-end : goal.slice_bounds-move_ring-end
 slice_bounds-move_ring-end c =
     let within = part_within c.loop-k.invariant.3 c.in-Some.ensures.steps.0 in
-    omega (arith, c.byte_at.ensures)
+    omega (arith, c.point_count.ensures.count)
 
 pub loop-k-preserved : goal.loop-k-preserved
 loop-k-preserved c =
     let steps = c.in-Some.ensures.steps in
-    let prepared = ring_prepared c.loop-k.invariant.3 steps.0 (c.loop-k.from + 17 * c.byte_at.result) (ap (λ (n : ℕ). c.loop-k.from + 17 * n) c.byte_at.ensures) c.move_ring.ensures in
+    let prepared = ring_prepared c.loop-k.invariant.3 steps.0 (c.loop-k.from + c.point_count.result) (ap (λ (n : ℕ). c.loop-k.from + n) c.point_count.ensures.count) c.move_ring.ensures in
     let left = ap length steps.0 in
     ((tt, tt, inl (omega arith)), tt, omega arith, rw (steps.1, steps.2) prepared)
 

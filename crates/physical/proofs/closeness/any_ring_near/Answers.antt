@@ -5,7 +5,6 @@ use mathlib.Core.Path.{◌≡◌, refl, sym, ap, ◌∙◌}
 use mathlib.Core.Bool.{Bool, false}
 use mathlib.Core.List.{List, ◌∷◌, map}
 use Prim.Native.Nat.{ℕ, ◌*◌, min}
-use native.Mathlib.Omega.{arith}
 use lib.Ieee.{Float}
 use lib.ListN.{length, get_or, take, drop}
 use Rattle.std.proofs.Common.{Bor}
@@ -25,17 +24,17 @@ use Rattle.physical.proofs.closeness.any_ring_near.Goals as goal
 
 -- the images of the next ring, and those of the rings behind it
 images_more : {bs rest : List (List ℕ)} {b : List ℕ} (images : List Float) → bs ≡ b ∷ rest
-    → ring_images (map ring bs) images ≡ triples (take (51 * get_or b 0 0) images) ∷ ring_images (map ring rest) (drop (51 * get_or b 0 0) images)
+    → ring_images (map ring bs) images ≡ triples (take (3 * (17 * get_or b 0 0)) images) ∷ ring_images (map ring rest) (drop (3 * (17 * get_or b 0 0)) images)
 unfolding ring_images image_numbers
 images_more {b = b} images e =
-    let own : 3 * length (ring_points (ring b)) ≡ 51 * get_or b 0 0 = omega (arith, ring_points_length b) in
+    let own : 3 * length (ring_points (ring b)) ≡ 3 * (17 * get_or b 0 0) = ap (λ (n : ℕ). 3 * n) (ring_points_length b) in
     rw (e, own)
 
 -- a turn tests the part of the images that is the next ring's
-near_more : (limit : Float) (p : Place) {bs rest : List (List ℕ)} {b : List ℕ} (images : List Float) (part : Bor (List Float)) {behind : List Float} {near whole : Bool} (byte mid : ℕ) → bs ≡ b ∷ rest → byte ≡ get_or b 0 0 → mid ≡ min (51 * byte) (length images)
+near_more : (limit : Float) (p : Place) {bs rest : List (List ℕ)} {b : List ℕ} (images : List Float) (part : Bor (List Float)) {behind : List Float} {near whole : Bool} (points mid : ℕ) → bs ≡ b ∷ rest → points ≡ 17 * get_or b 0 0 → mid ≡ min (3 * points) (length images)
     → part.now ≡ take mid images → behind ≡ drop mid images → IsAnswer limit p (YieldsFirst places_left) (record { list = part }) near → rings_near limit p false (ring_images (map ring bs) images) ≡ whole → rings_near limit p near (ring_images (map ring rest) behind) ≡ whole
-near_more limit p images part byte mid e told cut front back n w =
-    let own = cut ∙ ap (λ (m : ℕ). min (51 * m) (length images)) told in
+near_more limit p images part points mid e told cut front back n w =
+    let own = cut ∙ ap (λ (n : ℕ). min (3 * n) (length images)) told in
     let near = n (triples part.now) (YieldsList-from_first (λ (q : Place). q) places_left _ refl).runs in
     rw (back, own, drop_min) (ring_next limit p (images_more images e) (near ∙ ap (λ (xs : List Float). any_near limit p false (triples xs)) (front ∙ ap (λ (m : ℕ). take m images) own ∙ take_min _ images)) w)
 
@@ -51,12 +50,12 @@ loop-block-init c =
 pub returns-then-is_ring_near : goal.returns-then-is_ring_near
 returns-then-is_ring_near c =
     let x = c.args in
-    ring_found x.reach.limit x.p (ring_images (map ring c.next.new.self) c.split_at.result.1.now) (near_more x.reach.limit x.p c.loop-block.rest.now c.split_at.result.0 c.byte_at.result c.min.result c.in-Some.ensures.steps c.byte_at.ensures c.min.ensures c.split_at.ensures.front c.split_at.ensures.back c.if-is_ring_near.ensures c.loop-block.invariant.2)
+    ring_found x.reach.limit x.p (ring_images (map ring c.next.new.self) c.split_at.result.1.now) (near_more x.reach.limit x.p c.loop-block.rest.now c.split_at.result.0 c.point_count-count.result c.min.result c.in-Some.ensures.steps c.point_count-count.ensures.count c.min.ensures c.split_at.ensures.front c.split_at.ensures.back c.if-is_ring_near.ensures c.loop-block.invariant.2)
 
 pub loop-block-preserved : goal.loop-block-preserved
 loop-block-preserved c =
     let x = c.args in
-    (tt, tt, near_more x.reach.limit x.p c.loop-block.rest.now c.split_at.result.0 c.byte_at.result c.min.result c.in-Some.ensures.steps c.byte_at.ensures c.min.ensures c.split_at.ensures.front c.split_at.ensures.back c.if-is_ring_near.ensures c.loop-block.invariant.2)
+    (tt, tt, near_more x.reach.limit x.p c.loop-block.rest.now c.split_at.result.0 c.point_count-count.result c.min.result c.in-Some.ensures.steps c.point_count-count.ensures.count c.min.ensures c.split_at.ensures.front c.split_at.ensures.back c.if-is_ring_near.ensures c.loop-block.invariant.2)
 
 pub returns : goal.returns
 unfolding ring_images

@@ -7,7 +7,6 @@ use Rattle.leaves.specs.Bounds.{larger_of}
 use Rattle.sheet.specs.Content.{Coedge}
 use Rattle.sheet.specs.Layout.{coedge, ring}
 use Rattle.sheet.proofs.Items.{folded}
-use Rattle.sheet.proofs.Walks.{deviation_is}
 use Rattle.physical.specs.Physical.{deviates}
 use Rattle.physical.proofs.deviation.larger_deviation.Goals as goal
 
@@ -15,5 +14,5 @@ pub returns : goal.returns
 unfolding deviates
 returns c =
     let step : Float → Coedge → Float = λ d k. larger_of d k.deviation in
-    fold_from_yields_List _ step _ c.fold.result c.fold.ensures.ran (YieldsList-from_first (λ part. coedge part.now) (λ rest. rest) _ c.coedges.ensures) (λ a x b q k. rw (deviation_is x.now) (search rules))
+    fold_from_yields_List _ step _ c.fold.result c.fold.ensures.ran (YieldsList-from_first (λ part. coedge part.now) (λ rest. rest) _ c.coedges.ensures) (λ a x b q k. search rules)
     ∙ folded step c.args.most (ring c.args.block.now)

@@ -12,10 +12,10 @@ use Rattle.picker.proofs.Calling.{image_reads, images_long, image_refused, image
 use Rattle.picker.proofs.call.image_within.Goals as goal
 
 pub slice_bounds-ends_room-end : goal.slice_bounds-ends_room-end
-slice_bounds-ends_room-end g c = rings_few c.args.s.now (image_reads c.requires.0) c.byte_at.ensures
+slice_bounds-ends_room-end g c = rings_few c.args.s.now (image_reads c.requires.0) c.ring_count.ensures
 
 pub slice_bounds-ends-end : goal.slice_bounds-ends-end
-slice_bounds-ends-end g c = sym (length_front _ 16 0 (rings_few c.args.s.now (image_reads c.requires.0) c.byte_at.ensures))
+slice_bounds-ends-end g c = sym (length_front _ 16 0 (rings_few c.args.s.now (image_reads c.requires.0) c.ring_count.ensures))
 
 pub overflow_sub-images : goal.overflow_sub-images
 overflow_sub-images g c = omega (arith, images_long c.requires.0)
@@ -23,13 +23,13 @@ overflow_sub-images g c = omega (arith, images_long c.requires.0)
 pub returns-in_err-found : goal.returns-in_err-found
 returns-in_err-found g c =
     let s = c.args.s.now in
-    let fit = fits_of s g.row.N _ (image_reads c.requires.0) c.point_count.ensures c.byte_at.ensures c.requires.1 in
+    let fit = fits_of s g.row.N _ (image_reads c.requires.0) c.point_count.ensures c.ring_count.ensures c.requires.1 in
     let p = err_from_is_err_and c.from_residual.result c.from_residual.ensures.1 in
     rw (p.1, p.2) (image_refused c.requires.0 _ (told_refused _ (sheet_of s) c.args.phase _ fit c.find.ensures.0 c.in_err-found.was))
 
 pub returns : goal.returns
 returns g c =
     let s = c.args.s.now in
-    let fit = fits_of s g.row.N _ (image_reads c.requires.0) c.point_count.ensures c.byte_at.ensures c.requires.1 in
+    let fit = fits_of s g.row.N _ (image_reads c.requires.0) c.point_count.ensures c.ring_count.ensures c.requires.1 in
     let t = told_chosen _ (sheet_of s) c.args.phase _ fit c.find.ensures.0 c.in_ok-found.was in
     image_answered c.requires.0 c.answer_at.result t.0 c.place_at-last.ensures c.too_close.ensures (ap (λ (x : Found). x.best) t.1) c.answer_at.ensures

@@ -8,8 +8,8 @@ use Rattle.points.proofs.BlockPoints.{coedge_written, ring_unread}
 use Rattle.points.proofs.InPlace.{none_written, over_written}
 use Rattle.points.proofs.ring.read.Goals as goal
 
-pub returns-then-points-count : goal.returns-then-points-count
-returns-then-points-count c = ring_unread c.args.block.now c.args.points.now (omega (arith, c.byte_at-count.ensures))
+pub returns-then-points-point_count : goal.returns-then-points-point_count
+returns-then-points-point_count c = ring_unread c.args.block.now c.args.points.now (omega (arith, c.point_count.ensures.count))
 
 pub loop-k-init-derived : goal.loop-k-init-derived
 loop-k-init-derived c = let l = ring_length c.args.block.now in search rules
@@ -17,7 +17,7 @@ loop-k-init-derived c = let l = ring_length c.args.block.now in search rules
 pub loop-k-init : goal.loop-k-init
 loop-k-init c =
     let items = c.enumerate-k-items.ensures in
-    rw (c.into_iter-k-iterator.ensures.into_iter_gives, items.source, items.count, c.coedges.ensures) (omega (arith, c.byte_at-count.ensures, ring_length c.args.block.now), none_written _ _)
+    rw (c.into_iter-k-iterator.ensures.into_iter_gives, items.source, items.count, c.coedges.ensures) (omega (arith, ring_length c.args.block.now), none_written _ _)
 
 pub loop-k-preserved : goal.loop-k-preserved
 loop-k-preserved c =
@@ -32,4 +32,4 @@ returns c =
     let i = c.loop-k.invariant in
     let none = c.in-None.ensures.steps.0.0 in
     let all : length c.loop-k.k-iterator.iter ≡ 0 = ap length none in
-    over_written i.1 (ap ring_points none) (omega (arith, c.byte_at-count.ensures, ring_points_length c.args.block.now)) (omega arith)
+    over_written i.1 (ap ring_points none) (omega (arith, c.point_count.ensures.count, ring_points_length c.args.block.now)) (omega arith)

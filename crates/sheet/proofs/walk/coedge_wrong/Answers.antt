@@ -2,14 +2,11 @@
 use Rattle.std.proofs.Common.{rules}
 use Rattle.std.proofs.lemmas.Iterator.Consumers.{YieldsList-from_first}
 use Rattle.std.proofs.lemmas.Iterator.Search.{any_from_yields_List}
-use Rattle.sheet.specs.Checks.{point_wrong}
-use Rattle.sheet.proofs.Walks.{coedge_is}
+use Rattle.sheet.specs.Checks.{point_wrong, coedge_wrong}
 use Rattle.sheet.proofs.walk.coedge_wrong.Goals as goal
 
-pub returns-then-not-is_deviation : goal.returns-then-not-is_deviation
-returns-then-not-is_deviation c = rw (coedge_is c.args.part.now, ← c.number.ensures, ← c.is_deviation.ensures, c.if-not-is_deviation.true)
-
 pub returns-else-not-is_deviation : goal.returns-else-not-is_deviation
+unfolding coedge_wrong
 returns-else-not-is_deviation c =
-    rw (coedge_is c.args.part.now, ← c.number.ensures, ← c.is_deviation.ensures, c.if-not-is_deviation.false)
+    rw (← c.deviation.ensures, ← c.is_deviation.ensures, c.if-not-is_deviation.false)
     (any_from_yields_List point_wrong _ _ c.any.result c.any.ensures.ran (YieldsList-from_first (λ p. p) (λ rest. rest) _ c.points.ensures) (λ x b q k. search rules))
