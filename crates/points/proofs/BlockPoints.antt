@@ -1,20 +1,15 @@
 -- A ring's points as its block has them, written over the front of a list, a coedge at a time.
-use mathlib.Core.Path.{◌≡◌, refl, sym, ap}
+use mathlib.Core.Path.{◌≡◌, refl, sym}
 use mathlib.Core.List.{List, ◌∷◌, ◌++◌, flat_map}
-use Prim.Native.Nat.{ℕ, zero, suc, ◌+◌, ◌*◌, ◌-◌, ◌<◌, ◌≤◌}
+use Prim.Native.Nat.{ℕ, ◌+◌, ◌*◌, ◌-◌, ◌<◌, ◌≤◌}
 use native.Mathlib.Omega.{arith}
 use lib.ListN.{length, get_or, take, drop}
 use Rattle.sheet.specs.Content.{Point, Coedge, ring_points}
 use Rattle.answers.specs.Lists.{over}
 use Rattle.answers.proofs.Over.{over_short}
-use Rattle.sheet.specs.Layout.{points, coedge, ring}
-use Rattle.sheet.proofs.Blocks.{ring_points_length}
+use Rattle.sheet.specs.Layout.{coedge, ring}
+use Rattle.sheet.proofs.Blocks.{points_length, ring_points_length}
 use Rattle.points.proofs.InPlace.{Written, part_written}
-
-points_length : (n : ℕ) (s : List ℕ) → length (points n s) ≡ n
-unfolding points
-points_length zero s = refl
-points_length (suc n) s = ap suc (points_length n (drop 16 s))
 
 pub coedge_length : (s : List ℕ) → length (coedge s).points ≡ 17
 unfolding coedge

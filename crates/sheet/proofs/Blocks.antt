@@ -108,7 +108,7 @@ pub ring_length : (b : List ℕ) → length (ring b) ≡ get_or b 0 0
 unfolding ring
 ring_length b = coedges_length (get_or b 0 0) (drop 1 b)
 
-points_length : (n : ℕ) (s : List ℕ) → length (points n s) ≡ n
+pub points_length : (n : ℕ) (s : List ℕ) → length (points n s) ≡ n
 unfolding points
 points_length zero s = refl
 points_length (suc n) s = ap suc (points_length n (drop 16 s))
