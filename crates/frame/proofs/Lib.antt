@@ -12,3 +12,5 @@ pub mod SheetFrame
 pub mod FiniteScales
 -- the seam
 pub mod LaidOut
+-- the exit of a `?`
+pub mod PassedOn

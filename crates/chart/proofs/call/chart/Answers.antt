@@ -2,17 +2,16 @@
 -- call in lists by size.
 use mathlib.Core.Path.{sym}
 use native.Mathlib.Omega.{arith}
-use Rattle.std.proofs.lemmas.Result.{err_from_is_err_and}
 use Rattle.answers.specs.Outcome.{status_of}
 use Rattle.frame.proofs.SheetFrame.{points_most}
+use Rattle.frame.proofs.PassedOn.{passed_on}
 use Rattle.chart.proofs.Calling.{call_unread, call_no_room, call_passes, reads_of}
 use Rattle.chart.proofs.call.chart.Goals as goal
 
 pub returns-in_err-check : goal.returns-in_err-check
 unfolding status_of
 returns-in_err-check c =
-    let p = err_from_is_err_and c.from_residual.result c.from_residual.ensures.1 in
-    rw (p.1, p.2) (call_unread c.args.s.now c.args.phase c.args.points.now _ c.in_err-check.ensures)
+    rw (passed_on c.from_residual.ensures.1) (call_unread c.args.s.now c.args.phase c.args.points.now _ c.in_err-check.ensures)
 
 pub returns-then-points-n : goal.returns-then-points-n
 unfolding status_of

@@ -2,10 +2,10 @@
 -- refused on the way to the grid point is the answer; where it is found, the points are written and it is answered in
 -- the chart.
 use mathlib.Core.Path.{sym, ap, ◌∙◌}
-use Rattle.std.proofs.lemmas.Result.{err_from_is_err_and}
 use Rattle.answers.proofs.Over.{length_front}
 use Rattle.sheet.specs.Layout.{sheet_of}
 use Rattle.frame.proofs.LaidOut.{laid_points_lem}
+use Rattle.frame.proofs.PassedOn.{passed_on}
 use Rattle.chart.specs.declared.grid_point.Found.{Found}
 use Rattle.chart.proofs.Calling.{reads_of, rings_few, fits_of, call_refused, call_answered}
 use Rattle.chart.proofs.Finding.{told_refused, told_chosen}
@@ -21,8 +21,7 @@ pub returns-in_err-found : goal.returns-in_err-found
 returns-in_err-found g c =
     let s = c.args.s.now in
     let fit = fits_of s g.row.N _ (reads_of s c.args.phase c.requires.0.passes) c.point_count.ensures c.ring_count.ensures c.requires.1 in
-    let p = err_from_is_err_and c.from_residual.result c.from_residual.ensures.1 in
-    rw (p.1, p.2) (call_refused c.requires.0 _ (told_refused _ (sheet_of s) c.args.phase _ fit c.find.ensures.0 c.in_err-found.was))
+    rw (passed_on c.from_residual.ensures.1) (call_refused c.requires.0 _ (told_refused _ (sheet_of s) c.args.phase _ fit c.find.ensures.0 c.in_err-found.was))
 
 pub returns : goal.returns
 returns g c =

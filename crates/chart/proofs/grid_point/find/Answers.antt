@@ -8,7 +8,6 @@ use mathlib.Core.Bool.{Bool, true}
 use native.Mathlib.Omega.{arith}
 use lib.ListN.{length}
 use Rattle.std.specs.Prelude.{Ok}
-use Rattle.std.proofs.lemmas.Result.{err_from_is_err_and}
 use Rattle.answers.specs.Outcome.{numbered}
 use Rattle.sheet.specs.Content.{Point, Sheet}
 use Rattle.frame.specs.declared.framing.Frame.{Frame}
@@ -21,6 +20,7 @@ use Rattle.frame.specs.Seam.{fitting, laid_points, laid_ends}
 use Rattle.frame.proofs.Counting.{ring_number}
 use Rattle.frame.proofs.LaidOut.{fitting_is, laid_points_lem, laid_ends_lem, told_ready, told_refused, passed_fits}
 use Rattle.frame.proofs.Parting.{packed, rings_are}
+use Rattle.frame.proofs.PassedOn.{passed_on}
 use Rattle.chart.specs.Chart.{candidate, chosen, normalised_by}
 use Rattle.chart.specs.Found.{found}
 use Rattle.chart.proofs.AnyOrder.{chosen_in}
@@ -63,8 +63,7 @@ returns-in_err-frame c =
     let z = sheet_of c.args.s.now in
     let phase = c.args.phase in
     let b = fitting z (length c.args.points.now) (length c.args.ends.now) in
-    let p = err_from_is_err_and c.from_residual.result c.from_residual.ensures.1 in
-    rw (p.1, p.2) (found_refused b z phase _ (told_refused z phase b _ c.lay_out.ensures.0 c.in_err-frame.was), c.lay_out.ensures.1, c.lay_out.ensures.2)
+    rw (passed_on c.from_residual.ensures.1) (found_refused b z phase _ (told_refused z phase b _ c.lay_out.ensures.0 c.in_err-frame.was), c.lay_out.ensures.1, c.lay_out.ensures.2)
 
 pub returns-then-best : goal.returns-then-best
 unfolding numbered rings_in

@@ -2,7 +2,6 @@
 use mathlib.Core.Path.{sym, ◌∙◌}
 use mathlib.Core.List.{[], ◌∷◌, ◌++◌}
 use Rattle.answers.specs.Outcome.{check, first, number_of, status_of}
-use Rattle.std.proofs.lemmas.Result.{err_from_is_err_and}
 use Rattle.answers.proofs.Papers.{refused_somewhere}
 use Rattle.answers.proofs.FirstCheck.{first_passed, first_refused, first_here, first_later}
 use Rattle.sheet.specs.Checks.{layout_checks, content_checks}
@@ -10,14 +9,14 @@ use Rattle.sheet.specs.Layout.{sheet_of}
 use Rattle.sheet.proofs.Checked.{sheet_numbered}
 use Rattle.frame.specs.Framing.{phase_wrong}
 use Rattle.frame.specs.Seam.{phase_checks}
+use Rattle.frame.proofs.PassedOn.{passed_on}
 use Rattle.frame.proofs.checks.check.Goals as goal
 
 pub returns-in_err-check : goal.returns-in_err-check
 unfolding phase_checks
 returns-in_err-check c =
     let s = c.args.s.now in
-    let p = err_from_is_err_and c.from_residual.result c.from_residual.ensures.1 in
-    rw (p.1, p.2) (c.in_err-check.ensures ∙ sym (first_refused (layout_checks s ++ content_checks (sheet_of s)) _ (λ z. refused_somewhere _ _ (c.in_err-check.ensures ∙ z))))
+    rw (passed_on c.from_residual.ensures.1) (c.in_err-check.ensures ∙ sym (first_refused (layout_checks s ++ content_checks (sheet_of s)) _ (λ z. refused_somewhere _ _ (c.in_err-check.ensures ∙ z))))
 
 pub returns-then-phase_wrong : goal.returns-then-phase_wrong
 unfolding phase_checks first status_of number_of

@@ -6,7 +6,6 @@ use mathlib.Core.Bool.{true}
 use Prim.Native.Nat.{ℕ}
 use lib.ListN.{length}
 use Rattle.std.specs.Prelude.{Ok}
-use Rattle.std.proofs.lemmas.Result.{err_from_is_err_and}
 use Rattle.answers.specs.Outcome.{first, numbered, status_of}
 use Rattle.sheet.specs.Content.{Point}
 use Rattle.sheet.specs.Layout.{kind, sheet_of}
@@ -19,6 +18,7 @@ use Rattle.frame.specs.declared.framing.Frame.{Frame}
 use Rattle.frame.proofs.LaidOut.{fitting_is, laid_points_lem, laid_ends_lem, unlaid, framed_ready, framed_refused}
 use Rattle.frame.proofs.Parting.{rings_are}
 use Rattle.frame.proofs.SheetFrame.{sheet_frame, sheet_rows}
+use Rattle.frame.proofs.PassedOn.{passed_on}
 use Rattle.frame.proofs.seam.lay_out.Goals as goal
 
 -- lists that the sheet's moved rings are laid in
@@ -50,8 +50,7 @@ returns-in_err-check_joins c =
     let fits : fitting (sheet_of s) (length c.args.points.now) (length c.args.ends.now) ≡ true = sym c.is_fitting.ensures ∙ c.if-not-is_fitting.false in
     let same = frame_is s c.args.phase c.prepare.ensures _ c.kind_of.ensures c.frame_of-frame.ensures in
     let number = number_is s c.args.phase c.prepare.ensures same c.in_err-check_joins.ensures in
-    let p = err_from_is_err_and c.from_residual.result c.from_residual.ensures.1 in
-    rw (p.1, p.2) (
+    rw (passed_on c.from_residual.ensures.1) (
       framed_refused (sheet_of s) c.args.phase _ fits number,
       c.prepare.ensures.0 ∙ sym (laid_points_lem (sheet_of s) c.args.phase c.args.points.now fits),
       c.prepare.ensures.1 ∙ sym (laid_ends_lem (sheet_of s) c.args.phase c.args.ends.now fits),

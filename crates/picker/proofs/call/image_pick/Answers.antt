@@ -2,17 +2,16 @@
 -- the pick in lists by size.
 use mathlib.Core.Path.{sym, ◌∙◌}
 use native.Mathlib.Omega.{arith}
-use Rattle.std.proofs.lemmas.Result.{err_from_is_err_and}
 use Rattle.answers.proofs.Papers.{status_ok, status_err}
 use Rattle.frame.proofs.SheetFrame.{points_most}
+use Rattle.frame.proofs.PassedOn.{passed_on}
 use Rattle.chart.proofs.Calling.{reads_of}
 use Rattle.picker.proofs.Calling.{image_unread, image_wrong}
 use Rattle.picker.proofs.call.image_pick.Goals as goal
 
 pub returns-in_err-check : goal.returns-in_err-check
 returns-in_err-check c =
-    let p = err_from_is_err_and c.from_residual.result c.from_residual.ensures.1 in
-    rw (p.1, p.2) (image_unread c.args.s.now c.args.phase c.args.images.now _ (sym (status_err _ _) ∙ c.in_err-check.ensures))
+    rw (passed_on c.from_residual.ensures.1) (image_unread c.args.s.now c.args.phase c.args.images.now _ (sym (status_err _ _) ∙ c.in_err-check.ensures))
 
 pub images_wrong-requires : goal.images_wrong-requires
 images_wrong-requires c = points_most c.args.s.now (reads_of c.args.s.now c.args.phase (sym c.in_ok-check.ensures ∙ status_ok _))

@@ -2,9 +2,9 @@
 -- refused on the way to the grid point is the pick's answer; where it is found, 15 and the last image are.
 use mathlib.Core.Path.{sym, ap}
 use native.Mathlib.Omega.{arith}
-use Rattle.std.proofs.lemmas.Result.{err_from_is_err_and}
 use Rattle.answers.proofs.Over.{length_front}
 use Rattle.sheet.specs.Layout.{sheet_of}
+use Rattle.frame.proofs.PassedOn.{passed_on}
 use Rattle.chart.specs.declared.grid_point.Found.{Found}
 use Rattle.chart.proofs.Calling.{rings_few, fits_of}
 use Rattle.chart.proofs.Finding.{told_refused, told_chosen}
@@ -24,8 +24,7 @@ pub returns-in_err-found : goal.returns-in_err-found
 returns-in_err-found g c =
     let s = c.args.s.now in
     let fit = fits_of s g.row.N _ (image_reads c.requires.0) c.point_count.ensures c.ring_count.ensures c.requires.1 in
-    let p = err_from_is_err_and c.from_residual.result c.from_residual.ensures.1 in
-    rw (p.1, p.2) (image_refused c.requires.0 _ (told_refused _ (sheet_of s) c.args.phase _ fit c.find.ensures.0 c.in_err-found.was))
+    rw (passed_on c.from_residual.ensures.1) (image_refused c.requires.0 _ (told_refused _ (sheet_of s) c.args.phase _ fit c.find.ensures.0 c.in_err-found.was))
 
 pub returns : goal.returns
 returns g c =

@@ -5,16 +5,15 @@ use native.Mathlib.Omega.{arith}
 use borrow.Author.Tests.{eq-eqb, eqb-true}
 use Rattle.std.proofs.Common.{T}
 use mathlib.Core.Path.{subst}
-use Rattle.std.proofs.lemmas.Result.{err_from_is_err_and}
 use Rattle.answers.proofs.Papers.{status_ok, status_err}
 use Rattle.frame.proofs.SheetFrame.{points_most}
+use Rattle.frame.proofs.PassedOn.{passed_on}
 use Rattle.picker.proofs.Calling.{plane_unread, plane_wrong_kind, planar}
 use Rattle.picker.proofs.call.plane_pick.Goals as goal
 
 pub returns-in_err-check : goal.returns-in_err-check
 returns-in_err-check c =
-    let p = err_from_is_err_and c.from_residual.result c.from_residual.ensures.1 in
-    rw (p.1, p.2) (plane_unread c.args.s.now _ (sym (status_err _ _) ∙ c.in_err-check.ensures))
+    rw (passed_on c.from_residual.ensures.1) (plane_unread c.args.s.now _ (sym (status_err _ _) ∙ c.in_err-check.ensures))
 
 pub returns-then-not-is_plane : goal.returns-then-not-is_plane
 returns-then-not-is_plane c = plane_wrong_kind c.args.s.now (sym c.in_ok-check.ensures ∙ status_ok _) (λ e. subst T (sym (eq-eqb _ _ (c.kind_of-kind.ensures ∙ e)) ∙ sym c.is_plane.ensures ∙ c.if-not-is_plane.true) tt)
