@@ -7,11 +7,13 @@ ghost use Rattle.chart.specs.Chart.{candidate, normalised_by, period_of};
 
 use clearance::NO_SEGMENT;
 use frame::{Frame, Rings};
+use inside::GRID_POINTS;
 use points::Segment;
 use search::Candidate;
 use sheet::{MOST_POINTS, ORIGIN, Point, SMALL_POINTS, Sense};
 
-// The rings of a sheet: nothing lies between them, and neither they nor their points are more than a sheet can have.
+// The rings of a sheet: nothing lies between them. They are at most 256, more than a sheet has, as in
+// coverage/src/covering.rt, and their points at most 2176, as many as the largest sheet has.
 #[derive(Clone, Copy)]
 pub(crate) struct SheetRings<'a> {
     pub rings: Rings<'a>,
@@ -48,7 +50,7 @@ fn chosen_from(f: Frame, sense: Sense, normalised: SheetRings, list: &mut [Segme
     ensures { result ≡ candidate f sense (rings_in normalised.entry.rings) }
 {
     let rings = normalised.rings;
-    let mut covered = [false; 961];
+    let mut covered = [false; GRID_POINTS];
     coverage::cover(f, sense, rings, &mut covered);
     let period = period_of(f);
     let n = lay_rings(period, rings, list);
@@ -75,7 +77,8 @@ fn chosen_over(
     chosen_from(f, sense, SheetRings { rings }, list)
 }
 
-// The same, over lists of its own that have room for N points and as many segments.
+// The same, over lists of its own that have room for N points and as many segments. Each call says that N is room
+// enough, as at `chart_within`.
 fn chosen_within<const N: usize>(f: Frame, sense: Sense, moved: SheetRings) -> Candidate
     requires { (length moved.rings.points.now ≤ N) × (N ≤ 2176) }
     ensures { result ≡ candidate f sense (normalised_by f (rings_in moved.entry.rings)) }

@@ -12,7 +12,9 @@ use leaves::constants::{PI, SCALE_LIMIT, TAU};
 use sheet::{Kind, Point};
 
 // What rules 4 to 9 ask of a sheet beside its points: the box's least u and v, the scales, P, and
-// whether the chart is periodic and a torus band.
+// whether the chart is periodic and a torus band. `period` stands beside `periodic`, and `band` beside both, as in the
+// definitions' frame: P is worked out on every chart, and asked for on a periodic one only; check 11, and rule 7, which
+// asks for the sign of the sum there, tell a band from the other periodic charts.
 #[derive(Clone, Copy)]
 pub struct Frame {
     pub least: Point,

@@ -6,8 +6,8 @@ ghost use Rattle.frame.specs.Parts.{rings_in, rings_left};
 use sheet::Point;
 
 // The points of all rings, and where each ring ends. An end past the points is theirs, and a ring that ends before it
-// begins has none. Points and ends stand in two lists: a slice of each ring would need room for 256 of them, as there is
-// no heap, and rule 3 reads the points of all rings as one list.
+// begins has none. Points and ends stand in two lists: a list of slices would be a second list beside the points, made
+// anew for the moved and for the normalised points, and rule 3 reads the points of all rings as one list.
 #[derive(Clone, Copy)]
 pub struct Rings<'a> {
     pub points: &'a [Point],

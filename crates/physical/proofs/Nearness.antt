@@ -49,26 +49,26 @@ module _ (limit : Float) (p : Place) where
 -- ---- between the places that an iterator has to give
 
 -- every run of calls from s gives these, and then `None`
-abbrev pub Gives : {S : Type 0} → (S → Option Place → S → Type 0) → S → List Place → Type 0
-Gives steps s ring = AlwaysYields steps (λ q. q) s ring
+abbrev pub GivesPlaces : {S : Type 0} → (S → Option Place → S → Type 0) → S → List Place → Type 0
+GivesPlaces steps s ring = AlwaysYields steps (λ q. q) s ring
 
 module _ {S : Type 0} (steps : S → Option Place → S → Type 0) {s t : S} where
-  none_left : (ring : List Place) → Gives steps s ring → steps s None t → ring ≡ []
+  none_left : (ring : List Place) → GivesPlaces steps s ring → steps s None t → ring ≡ []
   none_left [] e h = refl
   none_left (q ∷ rest) e h = absurd (e.0 t h)
 
-  one_left : {b : Place} (ring : List Place) → Gives steps s ring → steps s (Some b) t → (rest : List Place) × Gives steps t rest × (ring ≡ b ∷ rest)
+  one_left : {b : Place} (ring : List Place) → GivesPlaces steps s ring → steps s (Some b) t → (rest : List Place) × GivesPlaces steps t rest × (ring ≡ b ∷ rest)
   one_left {b} [] e h = absurd (e b t h)
   one_left {b} (q ∷ rest) e h = let (is, more) = e.1 b t h in (rest, more, ap (λ (x : Place). x ∷ rest) (sym is))
 
 -- this is the answer for the ring that s has to give
 abbrev pub IsAnswer : {S : Type 0} → Float → Place → (S → Option Place → S → Type 0) → S → Bool → Type 0
-IsAnswer limit p steps s near = (ring : List Place) → Gives steps s ring → near ≡ any_near limit p false ring
+IsAnswer limit p steps s near = (ring : List Place) → GivesPlaces steps s ring → near ≡ any_near limit p false ring
 
 -- The answer for the ring that `start` has to give is told by its segments that are left: from the place a through those
 -- that s has to give, and back to the first. `near`: whether one before was near.
 pub record IsTold {S : Type 0} (limit : Float) (p : Place) (steps : S → Option Place → S → Type 0) (start : S) (first : Place) (near : Bool) (a : Place) (s : S) : Type 0 where
-  pub by : (ring : List Place) → Gives steps start ring → (rest : List Place) × Gives steps s rest × (fold_rest (near_step limit p) first near a rest ≡ any_near limit p false ring)
+  pub by : (ring : List Place) → GivesPlaces steps start ring → (rest : List Place) × GivesPlaces steps s rest × (fold_rest (near_step limit p) first near a rest ≡ any_near limit p false ring)
 
 module _ (limit : Float) (p : Place) {S : Type 0} (steps : S → Option Place → S → Type 0) (start : S) {t : S} where
   pub near_none : steps start None t → IsAnswer limit p steps start false

@@ -48,7 +48,7 @@ fn far_key(limit: f64) -> f64
     if limit < leaves::hypot(leaves::hypot_of_key(key), 0.0) {
         key
     } else {
-        1.0 / 0.0
+        f64::INFINITY
     }
 }
 
@@ -62,12 +62,12 @@ pub(crate) struct Reach {
 
 impl Reach {
     // Of a limit; none where no clearance can be above it, which is at most infinity: the least distance starts there.
-    #[tactic(auto, using(leaves::proofs::ConstantBits::infinity_bits))]
+    #[tactic(auto, using(crate::proofs::Threshold::infinity_is))]
     pub(crate) fn of(limit: f64) -> Option<Reach>
         ensures none { is_none result ≡ not (lt limit (inf false)) }
         ensures some { IfSome result (λ reach. reach.limit ≡ limit) }
     {
-        if limit < 1.0 / 0.0 {
+        if limit < f64::INFINITY {
             Some(Reach {
                 limit,
                 far: far_key(limit),

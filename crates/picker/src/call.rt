@@ -64,6 +64,7 @@ pub fn image_pick(s: &[u8], phase: Phase, images: &[f64]) -> Answer
 }
 
 // Plane pick of what passes the checks down to 8, over lists of its own, of which the first has room for N points.
+// Each call says that N is room enough, as at `image_within`.
 fn plane_within<const N: usize>(s: &[u8]) -> Answer
     requires { PlanePassed s.now × (point_count (sheet_of s.now) ≤ N) × (N ≤ 2176) }
     ensures { paper result ≡ plane_pick_of s.now }
