@@ -4,10 +4,10 @@ ghost use Rattle.std.specs.Prelude.{true, false, not, ◌≡◌, List, is_none, 
 ghost use Rattle.std.specs.Float.{inf};
 ghost use Rattle.std.specs.Float.Ieee.{lt};
 ghost use Rattle.std.specs.Iterator.{IsFinite, AlwaysYields};
-ghost use Rattle.points.specs.Segments.{between};
 ghost use Rattle.physical.specs.Space.{left as left_of, residual as residual_of};
 ghost use Rattle.physical.specs.Stages.{Far, is_near, any_near};
 
+use points::Between;
 use space::{Place, dot, minus};
 
 // One coordinate of p - a - t x d.
@@ -19,11 +19,11 @@ fn left(from: f64, t: f64, d: f64) -> f64
 }
 
 // p - a - t x d: from the segment's nearest point to p.
-fn residual(p: Place, a: Place, b: Place) -> Place
-    ensures { result ≡ residual_of p (between a b) }
+fn residual(p: Place, s: Between<Place>) -> Place
+    ensures { result ≡ residual_of p s }
 {
-    let d = minus(b, a);
-    let from = minus(p, a);
+    let d = minus(s.b, s.a);
+    let from = minus(p, s.a);
     let length = dot(d, d);
     let share = if 0.0 < length {
         dot(from, d) / length
@@ -77,12 +77,12 @@ impl Reach {
         }
     }
 
-    // Whether the distance from p to the segment from a to b is not above the limit. Where its key in x and y
-    // reaches `far` it is above.
-    pub(crate) fn is_near(self, p: Place, a: Place, b: Place) -> bool
-        ensures { result ≡ is_near self.limit p (between a b) }
+    // Whether the distance from p to the segment is not above the limit. Where its key in x and y reaches `far`
+    // it is above.
+    fn is_near(self, p: Place, s: Between<Place>) -> bool
+        ensures { result ≡ is_near self.limit p s }
     {
-        let rest = residual(p, a, b);
+        let rest = residual(p, s);
         let key = leaves::key(rest.x, rest.y);
         if self.far <= key {
             return false;
@@ -104,11 +104,11 @@ impl Reach {
         };
         let mut a = first;
         for b in places {
-            if self.is_near(p, a, b) {
+            if self.is_near(p, Between { a, b }) {
                 return true;
             }
             a = b;
         }
-        self.is_near(p, a, first)
+        self.is_near(p, Between { a, b: first })
     }
 }

@@ -7,7 +7,7 @@ use lib.Ieee.{Float, le}
 use Rattle.leaves.specs.Hypot.{key_of, hypot_of_key, hypot_of}
 use Rattle.leaves.proofs.Hypotenuses.{hypot_by_key, hypot3_by_key}
 use Rattle.space.specs.declared.vectors.Place.{Place}
-use Rattle.points.specs.Segments.{Between, between}
+use Rattle.points.specs.Segments.{Between}
 use Rattle.physical.specs.Space.{residual, distance}
 use Rattle.physical.specs.Stages.{Far, is_near}
 use Rattle.physical.proofs.near_segments.Reach.is_near.Goals as goal
@@ -29,10 +29,10 @@ module _ (limit : Float) (p : Place) (s : Between Place) where
 pub returns-then-self-key : goal.returns-then-self-key
 returns-then-self-key c =
     let x = c.args in
-    is_far x.self.limit x.p (between x.a x.b) x.self.far x.self.is_far
+    is_far x.self.limit x.p x.s x.self.far x.self.is_far
     (ap (le x.self.far) (ap (λ (d : Place). key_of d.x d.y) (sym c.residual-rest.ensures) ∙ sym c.key-key.ensures) ∙ c.if-self-key.true)
 
 pub returns : goal.returns
 returns c =
     let x = c.args in
-    rw (c.hypot.ensures, c.hypot_of_key.ensures, c.key-key.ensures, c.residual-rest.ensures) (measured x.self.limit x.p (between x.a x.b))
+    rw (c.hypot.ensures, c.hypot_of_key.ensures, c.key-key.ensures, c.residual-rest.ensures) (measured x.self.limit x.p x.s)
