@@ -1,9 +1,9 @@
--- Each decimal constant has the bits of the nearest f64, which are those that the code's literal shows; 1/0 is
--- infinity, and -1/0 the negative one. By computation.
+-- Each decimal constant has the bits of the nearest f64, which are those that the code's literal shows; so has infinity.
+-- By computation.
 use Rattle.std.proofs.Common.{◌≡◌, ◌^◌, false, T, refl}
-use lib.Ieee.{binary64, inf, div, of_bits, fits, lt}
+use lib.Ieee.{binary64, inf, of_bits, fits, lt}
 use lib.Ieee.Fits.{round-fits}
-use Rattle.leaves.specs.Constants.{plus_zero, one, decimal, deviation_limit, scale_limit, join_limit, clearance_limit, physical_limit, micro, end_limit, parallel, degenerate_limit}
+use Rattle.leaves.specs.Constants.{plus_zero, decimal, deviation_limit, scale_limit, join_limit, clearance_limit, physical_limit, micro, end_limit, parallel, degenerate_limit}
 
 pub deviation_limit_bits : deviation_limit ≡ of_bits binary64 0x3F60624DD2F1A9FC
 unfolding deviation_limit of_bits
@@ -41,9 +41,9 @@ pub degenerate_limit_bits : degenerate_limit ≡ of_bits binary64 0x3C32725DD1D2
 unfolding degenerate_limit of_bits
 degenerate_limit_bits = refl
 
--- the infinities, which have no literal, are written 1.0 / 0.0 and -1.0 / 0.0
-pub infinity_bits : div binary64 one plus_zero ≡ inf false
-unfolding div of_bits
+-- infinity, which has no literal, is std's constant of these bits
+pub infinity_bits : of_bits binary64 0x7FF0000000000000 ≡ inf false
+unfolding of_bits
 infinity_bits = refl
 
 -- ---- the limit of refusal 14: a value of the format, and 0 is not above it

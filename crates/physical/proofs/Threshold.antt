@@ -4,7 +4,7 @@ use mathlib.Core.Path.{◌≡◌, refl, sym, ap, subst, ◌∙◌}
 use mathlib.Core.Bool.{Bool, true, false, not, true≢false}
 use mathlib.Core.List.{List}
 use lib.Dec.{T}
-use lib.Ieee.{Float, inf, binary64, mul, lt, fits, of_bits}
+use lib.Ieee.{Float, inf, binary64, mul, lt, fits}
 use lib.Ieee.Bits.{of_bits-fits}
 use lib.Ieee.Fits.{mul-fits}
 use Rattle.leaves.specs.Constants.{physical_limit}
@@ -34,11 +34,6 @@ module _ (s : Sheet) (p : Place) (rings : List (List Place)) {limit : Float} (le
   close_always e = sym (by_near false e ∙ ring_stays limit p rings)
 
 -- ---- a limit that a clearance can be above, and one that none can
-
--- the code's constant
-pub infinity_is : of_bits binary64 0x7FF0000000000000 ≡ inf false
-unfolding of_bits
-infinity_is = refl
 
 pub passable : (below : Bool) → false ≡ not below → below ≡ true
 passable true e = refl

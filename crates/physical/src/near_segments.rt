@@ -62,7 +62,7 @@ pub(crate) struct Reach {
 
 impl Reach {
     // Of a limit; none where no clearance can be above it, which is at most infinity: the least distance starts there.
-    #[tactic(auto, using(crate::proofs::Threshold::infinity_is))]
+    #[tactic(auto, using(leaves::proofs::ConstantBits::infinity_bits))]
     pub(crate) fn of(limit: f64) -> Option<Reach>
         ensures none { is_none result ≡ not (lt limit (inf false)) }
         ensures some { IfSome result (λ reach. reach.limit ≡ limit) }

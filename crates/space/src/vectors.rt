@@ -74,6 +74,7 @@ pub fn length(v: Place) -> f64
 }
 
 // Whether a vector of this length has a unit: it is above PARALLEL and finite.
+#[tactic(auto, using(leaves::proofs::ConstantBits::parallel_bits, leaves::proofs::ConstantBits::infinity_bits), unfolding(crate::specs::Vectors::unit_serves))]
 fn serves(length: f64) -> bool
     ensures { result ≡ unit_serves length }
 {

@@ -10,7 +10,7 @@ use Rattle.leaves.specs.Keys.{Key}
 use Rattle.leaves.proofs.Hypotenuses.{key_is}
 use Rattle.leaves.proofs.Limits.{Above, far_hypot, inf_above}
 use Rattle.physical.specs.Stages.{Far}
-use Rattle.physical.proofs.Threshold.{infinity_is}
+use Rattle.leaves.proofs.ConstantBits.{infinity_bits}
 use Rattle.physical.proofs.near_segments.far_key.Goals as goal
 
 far : (limit k : Float) → Above limit k → Far limit k
@@ -31,4 +31,4 @@ returns-then-limit-hypot c =
 
 pub returns-else-limit-hypot : goal.returns-else-limit-hypot
 returns-else-limit-hypot c =
-    rw infinity_is (far c.args.limit _ (inf_above c.args.limit (passed c.well_formed.0.1) (passed c.requires)))
+    rw infinity_bits (far c.args.limit _ (inf_above c.args.limit (passed c.well_formed.0.1) (passed c.requires)))
