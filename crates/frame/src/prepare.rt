@@ -19,7 +19,7 @@ fn move_ring(kind: Kind, phase: Phase, block: &[u8], points: &mut [Point])
 }
 
 // Reads and moves the rings of a sheet. Their points come one behind the other in `points`, and `ends` gets the places
-// where each ring's end.
+// where each ring's end. (An index in a zip's place: of what is written through a zip, no clause of it speaks.)
 pub(crate) fn prepare(s: &[u8], phase: Phase, points: &mut [Point], ends: &mut [usize])
     requires { (length points.old ≡ point_count (sheet_of s.now)) × (length ends.old ≡ length (sheet_of s.now).rings) }
     ensures { (points.new ≡ flatten (moved_rings (sheet_of s.now) phase)) × (ends.new ≡ ends_from 0 (moved_rings (sheet_of s.now) phase)) }

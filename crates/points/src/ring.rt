@@ -23,7 +23,7 @@ fn read_coedge(part: &[u8], points: &mut [Point])
 }
 
 // The points of a ring's block over the front of `points`, whose tail keeps its contents; a list that
-// is too short for them stays as it is.
+// is too short for them stays as it is. (By index, as in `read_coedge`.)
 pub fn read(block: &[u8], points: &mut [Point])
     ensures { points.new ≡ over (ring_points (ring block.now)) points.old }
 {

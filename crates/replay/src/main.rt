@@ -101,7 +101,8 @@ fn is_recorded(answer: &[u8; 40], status: u32, given: Values) -> bool
 }
 
 impl Left {
-    // What a record showed whose answer has these bytes.
+    // What a record showed whose answer has these bytes. (`answers::put` makes of an answer what C reads, with the count as
+    // an f64; a record has it as a u32.)
     fn held_against(self, answer: &[u8; 40]) -> Outcome {
         let (status, given) = match self.answer {
             Ok(values) => (0, values),

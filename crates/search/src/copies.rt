@@ -83,7 +83,8 @@ impl ColumnCopy {
         }
     }
 
-    // A column from its own on up to which the copy serves: the last one, or one that is found by halves.
+    // A column from its own on up to which the copy serves: the last one, or one that is found by halves. (The turns of
+    // coverage have such a function; what both share is `column_ahead`, and each asks its own whether it may be asked.)
     fn reach(self) -> u32
         ensures { (self.column ≤ result) × Serving self.period self.column result self.segment self.copy }
     {
@@ -97,7 +98,8 @@ impl ColumnCopy {
 
 // The copies of all segments at column i, over those of the column before: each is left as it is where it still serves,
 // up to the column that `until` has for it, else worked out. The search measures from a list of segments, so these
-// columns are no part of it, and stand in a list of their own.
+// columns are no part of it, and stand in a list of their own. (Indices in a zip's place: of what is written through a
+// zip, no clause of it speaks.)
 pub(crate) fn renew(
     period: f64,
     i: u32,

@@ -67,7 +67,8 @@ fn arcs_of(centre: Place, sides: [Side; 3]) -> [Arc; 3]
     sides.map(|side| Arc::of_side(centre, side))
 }
 
-// 18: a side's end direction is over 1e-5 from the next side's start.
+// 18: a side's end direction is over 1e-5 from the next side's start. (Three by name: the walk from each to the next is
+// in points, on which no triangle stands.)
 #[tactic(auto, unfolding(crate::specs::Triangle::gap_among))]
 fn any_gap(arcs: [Arc; 3]) -> bool
     ensures { result ≡ gap_among arcs }
