@@ -9,8 +9,8 @@ use crate::refusal::Refusal;
 // x, y, z, clearance, count.
 pub const RESULT_LENGTH: usize = 5;
 
-// Puts an answer's five numbers into the list, zeros beside a refusal, and gives its status, a number, since C reads it.
-// A list of another length stays as it is, and the status is 1.
+// Puts an answer's five numbers into the list, zeros beside a refusal, and gives its status, a number, since C reads
+// it. A list of another length stays as it is, and the status is 1.
 #[tactic(auto, unfolding(crate::specs::Returned::returned_of, crate::specs::Returned::five, crate::specs::Answers::paper_by))]
 pub fn put<T: IntoValues>(answer: Result<T, Refusal>, list: &mut [f64]) -> u32
     ensures { returned result list.new ≡ returned_of (paper_by T.numbers answer) list.old }

@@ -63,7 +63,8 @@ impl<'a> Asked<'a> {
     }
 
     // The place of a segment beside the one in `place`, eight, four, two or one before or behind it, that stops. One
-    // from further on stops more of the rows that follow. It is kept out of the scan's code: in line it was slower by 3 %.
+    // from further on stops more of the rows that follow. It is kept out of the scan's code: in line it was slower by 3
+    // %.
     #[inline(never)]
     fn stop_beside(self, place: usize) -> Option<usize>
         ensures { Stop self.entry.p self.entry.bar result self.entry.list.now }
@@ -91,9 +92,9 @@ impl<'a> Asked<'a> {
             .find(|place| self.stops(*place))
     }
 
-    // The place of a segment that stops, of those that are likely to. Where those in the places of `hints` stopped a grid
-    // point nearby, they do again, or one beside them does. The scan of a face of four coedges is so short that nothing
-    // else is asked before it.
+    // The place of a segment that stops, of those that are likely to. Where those in the places of `hints` stopped a
+    // grid point nearby, they do again, or one beside them does. The scan of a face of four coedges is so short that
+    // nothing else is asked before it.
     fn likely_stop(self, hints: [usize; 2]) -> Option<usize>
         ensures { Stop self.entry.p self.entry.bar result self.entry.list.now }
     {

@@ -53,8 +53,9 @@ fn flip_rings(rings: Rings, cells: &mut [bool; GRID_POINTS])
     }
 }
 
-// Marks the covered grid points of a periodic chart, by the sum of the windings. Frame, sense and rings go side by side,
-// here and where they come from, as the definitions have them: a frame is worked out of rings, the sense is the sheet's.
+// Marks the covered grid points of a periodic chart, by the sum of the windings. Frame, sense and rings go side by
+// side, here and where they come from, as the definitions have them: a frame is worked out of rings, the sense is the
+// sheet's.
 fn cover_by_winding(f: Frame, sense: Sense, rings: Rings, covered: &mut [bool; GRID_POINTS])
     requires { (f.periodic ≡ true) × (length rings.points.now ≤ 2176) × (length rings.ends.now ≤ 256) }
     ensures { covered.new ≡ grid_of (λ (i j : ℕ). covered_of f sense (rings_in rings.entry) (grid_point i j)) }

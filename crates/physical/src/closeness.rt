@@ -28,8 +28,8 @@ fn any_ring_near(s: &[u8], reach: Reach, p: Place, images: &[f64]) -> bool
 }
 
 // 15: whether the physical clearance of p is not above larger-of(8 x greatest deviation, 1e-7), by the images of
-// the rings' points in `images`. (A match in place of `is_none_or`, here and for a plane: tried, the closure's clause did
-// not close.)
+// the rings' points in `images`. (A match in place of `is_none_or`, here and for a plane: tried, the closure's clause
+// did not close.)
 pub fn too_close(s: &[u8], p: Place, images: &[f64]) -> bool
     ensures { result ≡ too_close (sheet_of s.now) p (ring_images (sheet_of s.now).rings images.now) }
 {

@@ -61,8 +61,8 @@ fn before_spaces(name: &[u8]) -> &[u8]
     &name[..last.map_or(0, |k| k + 1)]
 }
 
-// Puts an answer's numbers at the start of the page, and gives them. (facepoint's `put_line` puts a whole line, with its
-// newline, and promises it.)
+// Puts an answer's numbers at the start of the page, and gives them. (facepoint's `put_line` puts a whole line, with
+// its newline, and promises it.)
 #[tactic(auto, using(crate::proofs::Pages::behind_within))]
 fn put_answer<'a>(answer: Answer, page: &'a mut [u8; 80]) -> &'a [u8] {
     let n = match answer {

@@ -101,8 +101,8 @@ fn is_recorded(answer: &[u8; 40], status: u32, given: Values) -> bool
 }
 
 impl Left {
-    // What a record showed whose answer has these bytes. (`answers::put` makes of an answer what C reads, with the count as
-    // an f64; a record has it as a u32.)
+    // What a record showed whose answer has these bytes. (`answers::put` makes of an answer what C reads, with the
+    // count as an f64; a record has it as a u32.)
     fn held_against(self, answer: &[u8; 40]) -> Outcome {
         let (status, given) = match self.answer {
             Ok(values) => (0, values),
@@ -115,8 +115,8 @@ impl Left {
     }
 }
 
-// Reads a record and makes its call; of a file that has ended, nothing. Here and below, that the closure which is handed
-// over may be called is required: no type says it, and a ghost field cannot say it of a type parameter.
+// Reads a record and makes its call; of a file that has ended, nothing. Here and below, that the closure which is
+// handed over may be called is required: no type says it, and a ghost field cannot say it of a type parameter.
 fn run_record<F: Fn(&[u8], u32, &mut [f64], &[u8]) -> Result<Left, RecordError>, R: Read>(
     file: &mut R,
     call: F,

@@ -46,8 +46,8 @@ fn is_covered(covered: &[bool], i: u32, j: u32) -> bool
     covered.get(k as usize).copied().unwrap_or(false)
 }
 
-// A grid point goes by its two numbers, as in the definitions, and the marks beside the segments: two lists that the call
-// is lent, of which each function here reads what it needs.
+// A grid point goes by its two numbers, as in the definitions, and the marks beside the segments: two lists that the
+// call is lent, of which each function here reads what it needs.
 impl Leader {
     // Before the first grid point.
     fn nobody() -> Leader
@@ -90,8 +90,8 @@ impl Leader {
         }
     }
 
-    // The column i of the grid, j from 1 to 31. `hints` has for each row, counted from 1, the place that told of the column
-    // before.
+    // The column i of the grid, j from 1 to 31. `hints` has for each row, counted from 1, the place that told of the
+    // column before.
     fn column(self, covered: &[bool], list: &[Segment], i: u32, hints: &mut [usize; 32]) -> Leader
         requires { (1 ≤ i) × (i ≤ 31) × (self.best.count ≤ 930) }
         ensures { (result.best ≡ column_of (covered_at covered.now) (clear_to list.now) self.best i) × (result.best.count ≤ self.best.count + 31) }

@@ -1,5 +1,5 @@
-// A surface's kind. (Its sense, and the phase of points, have this shape over names of their own: no type is generic over
-// the names of an enum.)
+// A surface's kind. (Its sense, and the phase of points, have this shape over names of their own: no type is generic
+// over the names of an enum.)
 ghost use Rattle.std.specs.Prelude.{◌≡◌, ◌||◌, ◌&&◌, eqb, leb, ltb};
 
 use std::marker::Model;

@@ -60,8 +60,8 @@ impl Axes {
         !corner.is_degenerate() && inside::inside(ring, self.flattened(corner.centre()))
     }
 
-    // The corners on the axes, over a list that has room for just them. (`next` in a zip's place: of what is written through
-    // a zip, no clause of it speaks.)
+    // The corners on the axes, over a list that has room for just them. (`next` in a zip's place: of what is written
+    // through a zip, no clause of it speaks.)
     fn flatten(self, corners: &[f64], ring: &mut [Point])
         requires { length ring.old ≡ length corners.now / 3 }
         ensures { ring.new ≡ map (flattened self.u self.v) (triples corners.now) }
