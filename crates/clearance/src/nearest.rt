@@ -63,8 +63,8 @@ impl<'a> Asked<'a> {
     }
 
     // The place of a segment beside the one in `place`, eight, four, two or one before or behind it, that stops. One
-    // from further on stops more of the rows that follow. It is kept out of the scan's code: in line it was slower by 3
-    // %.
+    // from further on stops more of the rows that follow. It is kept out of the scan's code: in line all was slower by
+    // three in a hundred.
     #[inline(never)]
     fn stop_beside(self, place: usize) -> Option<usize>
         ensures { Stop self.entry.p self.entry.bar result self.entry.list.now }
