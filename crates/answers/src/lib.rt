@@ -1,5 +1,5 @@
 // What the calls answer or refuse, and the numbers that they are given, held against their limits. Every other crate
-// but leaves, space, text, cases and vectors stands on this one.
+// but leaves, space, cases and vectors stands on this one.
 #![tactic(auto)]
 
 mod numbers;

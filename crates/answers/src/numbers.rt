@@ -1,4 +1,4 @@
-// Numbers held against a limit: of one, of a place, of a list, and of a list that a call asks for by its length.
+// Numbers held against a limit: one, a place's three, a list's, and those of a list that has to have a length.
 ghost use Rattle.std.specs.Prelude.{◌≡◌};
 ghost use Rattle.answers.specs.Lists.{any_of};
 ghost use Rattle.answers.specs.Limits.{beyond, place_beyond, missing};

@@ -26,9 +26,9 @@ fn values(found: Found, phase: Phase) -> Values
 }
 
 // The chart of a sheet that passes the checks down to 9, over lists of its own, of which the first has room for N
-// points. A type cannot say that N is room enough, so each call at a size says it. (The picks begin with the
-// same lines: a function cannot give back lists that lie in its own frame, and there is no heap for them. And which
-// size it is, each asks itself: no function is handed a function of a const size.)
+// points. A type cannot say that N is room enough, nor that it is at most the largest sheet's points, so each call at a
+// size says it. (The picks begin with the same lines: a function cannot give back lists that lie in its own frame, and
+// there is no heap for them. And which size it is, each asks itself: no function is handed a function of a const size.)
 fn chart_within<const N: usize>(s: &[u8], phase: Phase, points: &mut [f64]) -> Answer
     requires { Passed s.now phase points.old × (point_count (sheet_of s.now) ≤ N) × (N ≤ 2176) }
     ensures { charted (paper result) points.new ≡ chart_of s.now phase points.old }

@@ -64,7 +64,7 @@ impl<'a> Asked<'a> {
 
     // The place of a segment beside the one in `place`, eight, four, two or one before or behind it, that stops. One
     // from further on stops more of the rows that follow. It is kept out of the scan's code: in line all was slower by
-    // three in a hundred.
+    // three in a hundred. (Its promise is that of the two below, each to its own question.)
     #[inline(never)]
     fn stop_beside(self, place: usize) -> Option<usize>
         ensures { Stop self.entry.p self.entry.bar result self.entry.list.now }
@@ -116,7 +116,8 @@ impl<'a> Asked<'a> {
     }
 }
 
-// The larger of `bar` and the least key of all segments. Those in the places of `hints` are asked first.
+// The larger of `bar` and the least key of all segments. Those in the places of `hints` are asked first. (A match:
+// `map_or_else` would put the scan into a closure, and is no plainer.)
 pub fn nearest(p: Point, bar: f64, hints: [usize; 2], list: &[Segment]) -> Near
     ensures { result.key ≡ larger_of bar (least_key p (inf false) list.now) }
 {

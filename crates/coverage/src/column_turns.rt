@@ -19,7 +19,7 @@ pub(crate) struct ColumnTurns {
 }
 
 impl ColumnTurns {
-    // At no column yet: columns count from 1, so `until` has none, and no other test asks for that.
+    // Before any column: `until` is 0, and columns count from 1, so that `until < i` asks for both at once.
     pub(crate) fn new(period: f64, mid: f64) -> ColumnTurns
         ensures { (result.period ≡ period) × (result.mid ≡ mid) × (result.from ≡ 1) }
     {

@@ -22,7 +22,8 @@ fn on_side(sense: Sense, n: i64) -> bool
     sense.is_forward() && 0 < n || sense.is_reversed() && n < 0
 }
 
-// Whether a grid point with these crossings is covered.
+// Whether a grid point with these crossings is covered. (Band and sense go side by side, as in `covered_by` of the
+// definitions: the one is the frame's, the other the sheet's.)
 #[tactic(auto, using(std::proofs::lemmas::Int::ints), unfolding(crate::specs::Coverage::covered_by))]
 fn is_covered(band: bool, sense: Sense, n: i64) -> bool
     ensures { result ≡ covered_by band sense n }

@@ -11,7 +11,7 @@ use crate::near_segments::Reach;
 use space::{Place, Places};
 
 // Whether the distance from p to one of the segments of all rings' images is not above the limit. Images past
-// the list's end are none.
+// the list's end are none. (Reach and p go side by side: the reach is the sheet's, p is what the call is asked about.)
 fn any_ring_near(s: &[u8], reach: Reach, p: Place, images: &[f64]) -> bool
     ensures { result ≡ foldl (any_near reach.limit p) false (ring_images (sheet_of s.now).rings images.now) }
 {

@@ -77,8 +77,8 @@ impl Reach {
         }
     }
 
-    // Whether the distance from p to the segment is not above the limit. Where its key in x and y reaches `far`
-    // it is above.
+    // Whether the distance from p to the segment is not above the limit. Where the key of the distance in x and y
+    // reaches `far`, the distance is above it.
     fn is_near(self, p: Place, s: Between<Place>) -> bool
         ensures { result ≡ is_near self.limit p s }
     {

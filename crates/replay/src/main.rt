@@ -204,7 +204,8 @@ fn run_file<F: Fn(&[u8], u32, &mut [f64], &[u8]) -> Result<Left, RecordError>>(
     )
 }
 
-// Whether the file was replayed and its line written; else it says on standard error what failed.
+// Whether the file was replayed and its line written; else it says on standard error what failed. (vectors has such a
+// pair: see there.)
 fn is_run<F: Fn(&[u8], u32, &mut [f64], &[u8]) -> Result<Left, RecordError>>(
     rt: &(impl Files + Print + Eprint),
     name: &str,

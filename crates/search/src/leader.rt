@@ -123,7 +123,7 @@ fn search_plain(covered: &[bool], list: &[Segment]) -> Candidate
 
 // The whole grid of a periodic chart: each column is measured from the segments' copies there. `copies` and
 // `until`, which notes for each copy a column up to which it serves, have room for those of all segments, and
-// none serves yet (0: columns count from 1, and no other test asks for that).
+// none serves yet (0, since columns count from 1: `until < i` asks for both at once).
 fn search_periodic(
     period: f64,
     covered: &[bool],

@@ -77,7 +77,7 @@ pub fn sense_of(s: &[u8]) -> Sense
     Sense::from(byte_at(s, 6))
 }
 
-// How many rings the surface has.
+// How many rings the sheet has.
 pub fn ring_count(s: &[u8]) -> usize
     ensures { result ≡ ring_count s.now }
 {

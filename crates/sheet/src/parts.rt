@@ -1,7 +1,7 @@
 // What stands in a sheet one behind the other: its ring blocks, the coedges of a block, the points of a coedge. Each
-// is an iterator that gives as many as the count before them says; what the bytes' end cuts off reads as zeros. They
-// are three, since each splits off another size, gives another thing and is seen as another list: one over a trait that
-// told these would be longer.
+// is an iterator that gives as many as the count before them says, of points seventeen; what the bytes' end cuts off
+// reads as zeros. They are three, since each splits off another size, gives another thing and is seen as another list:
+// one over a trait that told these would be longer.
 ghost use Rattle.std.specs.Prelude.{◌≡◌, take, drop};
 ghost use Rattle.std.specs.Iterator.{YieldsFirst, YieldsFirstBy, item_count};
 ghost use Rattle.sheet.specs.Layout.{blocks, coedge, ring};

@@ -18,8 +18,8 @@ fn digit(d: u8) -> u8
     if d < 10 { b'0' + d } else { b'A' + (d - 10) }
 }
 
-// From the last digit to the first, by index: over `iter_mut().rev()` the loop would need an answer, and here needs
-// none.
+// From the last digit to the first, by index: over `iter_mut().rev()` the loop's proof would need an answer, and so
+// it needs none.
 #[tactic(auto, using(crate::proofs::Fronts::digit_steps))]
 pub(crate) fn hex(n: u64) -> [u8; 16]
     ensures { result ≡ hexadecimal n }

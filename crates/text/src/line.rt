@@ -73,7 +73,7 @@ pub fn put_point(v: Values, at: usize, page: &mut [u8]) -> usize
     put_bytes(text.as_slice(), at, page)
 }
 
-// Puts a point's numbers and a newline.
+// Puts a point's numbers and a newline. (What it shares with `put_point` is `point_text`, and no more is left.)
 #[tactic(auto, unfolding(crate::specs::Line::point_line))]
 pub fn point_line(v: Values, at: usize, page: &mut [u8]) -> usize
     ensures value { result ≡ behind at (point_line v.x v.y v.z v.clearance v.count) page.old }

@@ -68,7 +68,7 @@ fn arcs_of(centre: Place, sides: [Side; 3]) -> [Arc; 3]
 }
 
 // 18: a side's end direction is over 1e-5 from the next side's start. (Three by name: the walk from each to the next is
-// in points, on which no triangle stands.)
+// in points, a crate that this one does not stand on.)
 #[tactic(auto, unfolding(crate::specs::Triangle::gap_among))]
 fn any_gap(arcs: [Arc; 3]) -> bool
     ensures { result ≡ gap_among arcs }

@@ -88,10 +88,8 @@ impl Axes {
         ensures { position_paper result ≡ point_among self.u self.v (triples corners.now) }
     {
         self.flatten(corners, ring);
-        match self.first_corner(corners, ring) {
-            None => Err(Refusal::NoneServes),
-            Some(corner) => Ok(corner.centre()),
-        }
+        let corner = self.first_corner(corners, ring).ok_or(Refusal::NoneServes)?;
+        Ok(corner.centre())
     }
 }
 
