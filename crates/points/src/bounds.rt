@@ -52,8 +52,8 @@ pub fn box_of(points: &[Point]) -> Box
     found
 }
 
-// Whether the ring's first and last u differ by over PI. (A match in place of `is_some_and`: in a closure it would have to
-// be shown anew that `ring[0]` is there.)
+// Whether the ring's first and last u differ by over PI. (A match in place of `is_some_and`: in a closure it would have
+// to be shown anew that `ring[0]` is there.)
 #[tactic(auto, using(crate::proofs::Ends::around_none, crate::proofs::Ends::around_some))]
 pub fn goes_around(ring: &[Point]) -> bool
     ensures { result ≡ goes_around ring.now }
