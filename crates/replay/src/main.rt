@@ -116,7 +116,7 @@ impl Left {
 }
 
 // Reads a record and makes its call; of a file that has ended, nothing. Here and below, that the closure which is
-// handed over may be called is required: no type says it, and a ghost field cannot say it of a type parameter.
+// handed over may be called is required. (A trait's function asks nothing, but each of the nine calls would be a type.)
 fn run_record<F: Fn(&[u8], u32, &mut [f64], &[u8]) -> Result<Left, RecordError>, R: Read>(
     file: &mut R,
     call: F,

@@ -55,8 +55,8 @@ fn is_same(x: f64, y: f64) -> bool
 }
 
 // Reads a line, and says whether the answer for its argument is its answer; of a file that has ended, nothing. Here and
-// below, that the closure which is handed over may be called is required: no type says it, and a ghost field cannot say
-// it of a type parameter.
+// below, that the closure which is handed over may be called is required. (A trait's function asks nothing, but each
+// leaf would be a type.)
 fn run_line<F: Fn(f64) -> f64, R: Read>(leaf: F, file: &mut R) -> io::Result<Option<bool>>
     requires { F.IsAlwaysCallable leaf }
 {
