@@ -1,135 +1,150 @@
--- The ring blocks. Bytes that blocks fill are those blocks, one behind the other, and whole blocks one behind the other
--- are cut back into themselves.
--- A ring has as many coedges as its block's first byte says, and each coedge 17 points.
+-- The ring blocks and the coedges in them, of either version. A coedge and a block without a fault are cut off whatever
+-- stands behind them. A ring has as many coedges as its block's first byte says.
 use mathlib.Core.Path.{◌≡◌, refl, sym, ap, ap₂, ◌∙◌}
-use mathlib.Core.Bool.{true, ◌&&◌}
-use mathlib.Core.List.{List, [], ◌∷◌, ◌++◌, flatten, flat_map}
+use mathlib.Core.Bool.{Bool, true, false, cond, ◌||◌}
+use mathlib.Core.List.{List, [], ◌∷◌, ◌++◌, map, flatten, append_assoc}
 use Prim.Native.Nat.{ℕ, zero, suc, ◌+◌, ◌*◌, ◌≤◌, ◌<◌}
-use native.Mathlib.Nat.{add-zero}
 use native.Mathlib.Omega.{arith}
-use lib.Dec.{leb}
-use lib.ListN.{length, get_or, take, drop, take-append-drop, length-append, get_or-append}
-use lib.Seq.{length-take-le, get_or-take, get_or-drop, take_at, drop_at}
-use borrow.Author.Tests.{leb-true, eqb-true, le-leb}
-use Rattle.std.proofs.lemmas.Bool.{and_parts}
-use Rattle.std.proofs.lemmas.List.{nil_from_length}
+use lib.Dec.{eqb, ltb}
+use lib.ListN.{length, get_or, take, drop, take-append-drop, length-append, length-drop, length-take, length-map, get_or-append}
+use lib.Seq.{drop-append-le}
+use borrow.Author.Tests.{ltb-false, eqb-false}
 use Rattle.leaves.proofs.Folds.{All}
-use Rattle.sheet.specs.Content.{Coedge, ring_points}
-use Rattle.sheet.specs.Layout.{kind, ring_count, head_size, block_size, cut, blocks, points, coedge, coedges, ring}
-use Rattle.sheet.specs.Checks.{fill}
+use Rattle.sheet.specs.Content.{Coedge}
+use Rattle.sheet.specs.Layout.{version, kind, ring_count, head_size, cut, sampled, coedge_points, coedge_head, coedge_size, points, coedge, coedge_parts, ring, block_size, blocks}
+use Rattle.sheet.specs.Checks.{first_fault, coedge_fault, block_fault}
+use Rattle.sheet.proofs.Cuts.{cut_length, behind, cut_whole, CutOff, cut_back, faultless_cut, neither_fault, none_faulty}
 
--- ---- sizes
+-- ---- coedges
 
-block_size_is : (s : List ℕ) → block_size s ≡ 1 + 280 * get_or s 0 0
+-- the byte behind the deviation tells, where it is there
+same_points : (v : ℕ) (x y : List ℕ) → coedge_head v ≤ length x → coedge_points v (x ++ y) ≡ coedge_points v x
+unfolding coedge_points coedge_head
+same_points v x y h = by (eqb v 2) h
+  where
+    by : (b : Bool) → cond b 9 8 ≤ length x → cond b (get_or (x ++ y) 8 0) sampled ≡ cond b (get_or x 8 0) sampled
+    by true h = get_or-append x y 0 8 (omega arith)
+    by false h = refl
+
+same_coedge : (v : ℕ) (x y : List ℕ) → coedge_head v ≤ length x → coedge_size v (x ++ y) ≡ coedge_size v x
+unfolding coedge_size
+same_coedge v x y h = ap (λ (n : ℕ). coedge_head v + 16 * n) (same_points v x y h)
+
+-- a coedge without a fault is there, and has two points or more and not too many
+pub record Whole (v : ℕ) (p : List ℕ) : Type 0 where
+  pub head : coedge_head v ≤ length p
+  pub least : 2 ≤ coedge_points v p
+  pub most : coedge_points v p ≤ sampled
+  pub there : coedge_size v p ≤ length p
+
+pub whole_coedge : (v : ℕ) (p : List ℕ) → coedge_fault v p ≡ 0 → Whole v p
+unfolding coedge_fault
+whole_coedge v p e = by (ltb (length p) (coedge_head v)) refl (ltb (coedge_points v p) 2) refl (ltb sampled (coedge_points v p)) refl (ltb (length p) (coedge_size v p)) refl e
+  where
+    by : (a : Bool) → ltb (length p) (coedge_head v) ≡ a → (b : Bool) → ltb (coedge_points v p) 2 ≡ b → (c : Bool) → ltb sampled (coedge_points v p) ≡ c → (d : Bool) → ltb (length p) (coedge_size v p) ≡ d
+        → ◌≡◌ {A = ℕ} (cond a 5 (cond (b || c) 27 (cond d 5 0))) 0 → Whole v p
+    by true _ b _ c _ d _ e = absurd (omega (arith, e))
+    by false _ true _ c _ d _ e = absurd (omega (arith, e))
+    by false _ false _ true _ d _ e = absurd (omega (arith, e))
+    by false _ false _ false _ true _ e = absurd (omega (arith, e))
+    by false h false i false j false k e = record { head = ltb-false _ _ h; least = ltb-false _ _ i; most = ltb-false _ _ j; there = ltb-false _ _ k }
+
+coedge_cut : (v : ℕ) (s : List ℕ) → coedge_fault v (take (coedge_size v s) s) ≡ 0 → CutOff (coedge_size v) (take (coedge_size v s) s)
+coedge_cut v s e rest =
+    let k = coedge_size v s in
+    let p = take k s in
+    let w = whole_coedge v p e in
+    let own : k ≡ coedge_size v p = ap (coedge_size v) (sym (take-append-drop k s)) ∙ same_coedge v p (drop k s) w.head in
+    same_coedge v p rest w.head ∙ omega (arith, own, w.there, length-take k s)
+
+-- ---- a block without a fault
+
+module _ (v : ℕ) (b : List ℕ) (e : block_fault v b ≡ 0) where
+  pub block_there : 1 ≤ length b
+  unfolding block_fault
+  block_there = by (eqb (length b) 0) refl e
+    where
+      by : (a : Bool) → eqb (length b) 0 ≡ a → cond a 5 (first_fault (coedge_fault v) (coedge_parts v b)) ≡ 0 → 1 ≤ length b
+      by true h e = absurd (omega (arith, e))
+      by false h e = let some = eqb-false (length b) 0 h in omega arith
+
+  pub coedges_faultless : All (λ (p : List ℕ). coedge_fault v p ≡ 0) (coedge_parts v b)
+  unfolding block_fault
+  coedges_faultless = by (eqb (length b) 0) e
+    where
+      by : (a : Bool) → cond a 5 (first_fault (coedge_fault v) (coedge_parts v b)) ≡ 0 → All (λ (p : List ℕ). coedge_fault v p ≡ 0) (coedge_parts v b)
+      by true e = absurd (omega (arith, e))
+      by false e = none_faulty (coedge_fault v) (coedge_parts v b) e
+
+  -- its coedges are the same, whatever stands behind it
+  front_parts : (rest : List ℕ) → coedge_parts v (b ++ rest) ≡ coedge_parts v b
+  unfolding coedge_parts
+  front_parts rest =
+      let size = coedge_size v in
+      let n = get_or b 0 0 in
+      let ps = cut size n (drop 1 b) in
+      let off : All (CutOff size) ps = faultless_cut size (coedge_fault v) (coedge_cut v) n (drop 1 b) coedges_faultless in
+      let bytes : drop 1 b ++ rest ≡ flatten ps ++ (behind size n (drop 1 b) ++ rest) =
+      ap (λ (l : List ℕ). l ++ rest) (sym (cut_whole size n (drop 1 b))) ∙ append_assoc (flatten ps) (behind size n (drop 1 b)) rest in
+      ap₂ (cut size) (get_or-append b rest 0 0 block_there ∙ sym (cut_length size n (drop 1 b))) (drop-append-le 1 b rest block_there ∙ bytes)
+      ∙ cut_back size ps off (behind size n (drop 1 b) ++ rest)
+
+  same_size : (rest : List ℕ) → block_size v (b ++ rest) ≡ block_size v b
+  unfolding block_size
+  same_size rest = ap (λ (ps : List (List ℕ)). 1 + length (flatten ps)) (front_parts rest)
+
+parts_within : (v : ℕ) (b : List ℕ) → length (flatten (coedge_parts v b)) ≤ length (drop 1 b)
+unfolding coedge_parts
+parts_within v b = omega (arith, ap length (cut_whole (coedge_size v) (get_or b 0 0) (drop 1 b)), length-append (flatten (cut (coedge_size v) (get_or b 0 0) (drop 1 b))) (behind (coedge_size v) (get_or b 0 0) (drop 1 b)))
+
+block_within : (v : ℕ) (b : List ℕ) → 1 ≤ length b → block_size v b ≤ length b
 unfolding block_size
-block_size_is s = refl
+block_within v b h = omega (arith, parts_within v b, length-drop 1 b)
 
-pub block_size_at : (s : List ℕ) (at : ℕ) → block_size (drop at s) ≡ 1 + 280 * get_or s at 0
-block_size_at s at = block_size_is (drop at s) ∙ simp (get_or-drop, add-zero)
+block_cut : (v : ℕ) (s : List ℕ) → block_fault v (take (block_size v s) s) ≡ 0 → CutOff (block_size v) (take (block_size v s) s)
+block_cut v s e rest =
+    let k = block_size v s in
+    let b = take k s in
+    let own : k ≡ block_size v b = ap (block_size v) (sym (take-append-drop k s)) ∙ same_size v b e (drop k s) in
+    same_size v b e rest ∙ omega (arith, own, block_within v b (block_there v b e), length-take k s)
 
-pub block_size_pos : (s : List ℕ) → 0 < block_size s
-block_size_pos s = omega (arith, block_size_is s)
+-- b is one whole block, cut off whatever stands behind it, and without a fault
+abbrev pub Block : ℕ → List ℕ → Type 0
+Block v b = CutOff (block_size v) b × (block_fault v b ≡ 0)
 
--- the first byte is all that the size turns on
-same_size : (a b : List ℕ) → get_or a 0 0 ≡ get_or b 0 0 → block_size a ≡ block_size b
-same_size a b e = omega (arith, block_size_is a, block_size_is b)
+pub blocks_cut : (s : List ℕ) → All (λ (b : List ℕ). block_fault (version s) b ≡ 0) (blocks s) → All (CutOff (block_size (version s))) (blocks s)
+unfolding blocks
+blocks_cut s h = faultless_cut (block_size (version s)) (block_fault (version s)) (block_cut (version s)) (ring_count s) (drop (head_size (kind s)) s) h
 
-pub first_byte : (s : List ℕ) → get_or (take (block_size s) s) 0 0 ≡ get_or s 0 0
-first_byte s = get_or-take (block_size s) s 0 0 (block_size_pos s)
-
--- ---- blocks
-
--- b is one whole block
-abbrev pub Block : List ℕ → Type 0
-Block b = length b ≡ block_size b
-
-fill_none : (s : List ℕ) → fill zero s ≡ true → s ≡ []
-unfolding fill
-fill_none s e = nil_from_length s (eqb-true (length s) 0 e)
-
--- the first of the blocks that fill s, and what fills the rest
-pub fill_first : (n : ℕ) (s : List ℕ) → fill (suc n) s ≡ true → (block_size s ≤ length s) × (fill n (drop (block_size s) s) ≡ true)
-unfolding fill
-fill_first n s e =
-    let p = and_parts (leb (block_size s) (length s)) (fill n (drop (block_size s) s)) e in
-    (leb-true (block_size s) (length s) p.0, p.1)
-
-pub cut_length : (n : ℕ) (s : List ℕ) → length (cut n s) ≡ n
-unfolding cut
-cut_length zero s = refl
-cut_length (suc n) s = ap suc (cut_length n (drop (block_size s) s))
-
-pub whole_cut : (n : ℕ) (s : List ℕ) → fill n s ≡ true → flatten (cut n s) ≡ s
-unfolding cut flatten
-whole_cut zero s e = sym (fill_none s e)
-whole_cut (suc n) s e =
-    ap (λ (l : List ℕ). take (block_size s) s ++ l) (whole_cut n (drop (block_size s) s) (fill_first n s e).1) ∙ take-append-drop (block_size s) s
-
-taken_block : (s : List ℕ) → block_size s ≤ length s → Block (take (block_size s) s)
-taken_block s h = length-take-le (block_size s) s h ∙ sym (same_size (take (block_size s) s) s (first_byte s))
-
-pub cut_blocks : (n : ℕ) (s : List ℕ) → fill n s ≡ true → All Block (cut n s)
-unfolding cut
-cut_blocks zero s e = tt
-cut_blocks (suc n) s e =
-    let p = fill_first n s e in
-    (taken_block s p.0, cut_blocks n (drop (block_size s) s) p.1)
-
--- the size of a whole block with bytes behind it is its length
-front_size : (b rest : List ℕ) → Block b → block_size (b ++ rest) ≡ length b
-front_size b rest h = same_size (b ++ rest) b (get_or-append b rest 0 0 (omega (arith, block_size_pos b))) ∙ sym h
-
-pub cut_flatten : (bs : List (List ℕ)) → All Block bs → cut (length bs) (flatten bs) ≡ bs
-unfolding cut flatten
-cut_flatten [] h = refl
-cut_flatten (b ∷ bs) h =
-    let e : length b ≡ block_size (b ++ flatten bs) = sym (front_size b (flatten bs) h.0) in
-    ap₂ (λ (x : List ℕ) (xs : List (List ℕ)). x ∷ xs)
-    (take_at b (flatten bs) (block_size (b ++ flatten bs)) e)
-    (ap (cut (length bs)) (drop_at b (flatten bs) (block_size (b ++ flatten bs)) e) ∙ cut_flatten bs h.1)
-
-pub fill_flatten : (bs : List (List ℕ)) → All Block bs → fill (length bs) (flatten bs) ≡ true
-unfolding fill flatten
-fill_flatten [] h = refl
-fill_flatten (b ∷ bs) h =
-    let s = b ++ flatten bs in
-    let e : length b ≡ block_size s = sym (front_size b (flatten bs) h.0) in
-    ap₂ ◌&&◌ (le-leb (block_size s) (length s) (simp length-append (omega arith)))
-    (ap (fill (length bs)) (drop_at b (flatten bs) (block_size s) e) ∙ fill_flatten bs h.1)
+pub blocks_length : (s : List ℕ) → length (blocks s) ≡ ring_count s
+unfolding blocks
+blocks_length s = cut_length (block_size (version s)) (ring_count s) (drop (head_size (kind s)) s)
 
 -- ---- the ring in a block
 
-coedges_length : (n : ℕ) (s : List ℕ) → length (coedges n s) ≡ n
-unfolding coedges
-coedges_length zero s = refl
-coedges_length (suc n) s = ap suc (coedges_length n (drop 280 s))
+pub ring_length : (v : ℕ) (b : List ℕ) → length (ring v b) ≡ get_or b 0 0
+unfolding ring coedge_parts
+ring_length v b = length-map (cut (coedge_size v) (get_or b 0 0) (drop 1 b)) (coedge v) ∙ cut_length (coedge_size v) (get_or b 0 0) (drop 1 b)
 
-pub ring_length : (b : List ℕ) → length (ring b) ≡ get_or b 0 0
-unfolding ring
-ring_length b = coedges_length (get_or b 0 0) (drop 1 b)
-
-pub points_length : (n : ℕ) (s : List ℕ) → length (points n s) ≡ n
+points_length : (n : ℕ) (s : List ℕ) → length (points n s) ≡ n
 unfolding points
 points_length zero s = refl
 points_length (suc n) s = ap suc (points_length n (drop 16 s))
 
-coedges_points : (n : ℕ) (s : List ℕ) → All (λ (c : Coedge). length c.points ≡ 17) (coedges n s)
-unfolding coedges coedge
-coedges_points zero s = tt
-coedges_points (suc n) s = (points_length 17 (drop 8 s), coedges_points n (drop 280 s))
+pub coedge_length : (v : ℕ) (p : List ℕ) → length (coedge v p).points ≡ coedge_points v p
+unfolding coedge
+coedge_length v p = points_length (coedge_points v p) (drop (coedge_head v) p)
 
-pub coedge_points : (b : List ℕ) → All (λ (c : Coedge). length c.points ≡ 17) (ring b)
+-- of a block without a fault each coedge has two points at least, and not too many
+abbrev pub Sampled : Coedge → Type 0
+Sampled c = (2 ≤ length c.points) × (length c.points ≤ sampled)
+
+pub ring_sampled : (v : ℕ) (b : List ℕ) → block_fault v b ≡ 0 → All Sampled (ring v b)
 unfolding ring
-coedge_points b = coedges_points (get_or b 0 0) (drop 1 b)
-
-all_points : (cs : List Coedge) → All (λ (c : Coedge). length c.points ≡ 17) cs → length (ring_points cs) ≡ 17 * length cs
-unfolding ring_points flat_map
-all_points [] h = refl
-all_points (c ∷ cs) h = simp length-append (omega (arith, h.0, all_points cs h.1))
-
-pub ring_points_length : (b : List ℕ) → length (ring_points (ring b)) ≡ 17 * get_or b 0 0
-ring_points_length b = all_points (ring b) (coedge_points b) ∙ ap (λ (n : ℕ). 17 * n) (ring_length b)
-
-pub blocks_most : (s : List ℕ) → get_or s 7 0 < 256 → length (blocks s) ≤ 255
-unfolding blocks
-blocks_most s h = omega (arith, cut_length (ring_count s) (drop (head_size (kind s)) s))
+ring_sampled v b e = go (coedge_parts v b) (coedges_faultless v b e)
+  where
+    go : (ps : List (List ℕ)) → All (λ (p : List ℕ). coedge_fault v p ≡ 0) ps → All Sampled (map (coedge v) ps)
+    go [] h = tt
+    go (p ∷ ps) h =
+        let w = whole_coedge v p h.0 in
+        ((omega (arith, coedge_length v p, w.least), omega (arith, coedge_length v p, w.most)), go ps h.1)

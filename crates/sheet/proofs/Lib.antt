@@ -4,7 +4,8 @@
 -- bytes and the numbers that they are
 pub mod Bytes
 pub mod Reading
--- blocks, the rings in them, and the walks over both
+-- a list cut up, blocks and the rings in them, and the walks over both
+pub mod Cuts
 pub mod Blocks
 pub mod Items
 pub mod Walks

@@ -1,7 +1,7 @@
--- Document 01, "Sheet": where the fields of a sheet of version 1 stand, and what they say.
+-- Document 01, "Sheet": where the fields of a sheet stand, and what they say. What differs by version is said over it.
 -- Every definition has a value for every list of bytes, whatever the checks say of it.
 use Rattle.std.specs.Prelude.{cond, ℕ, zero, suc, ◌+◌, ◌*◌, ◌%◌, ◌^◌, eqb, ltb, length, get_or, take, drop, Float}
-use mathlib.Core.List.{List, [], ◌∷◌, map, foldl}
+use mathlib.Core.List.{List, [], ◌∷◌, map, foldl, flatten}
 use Rattle.std.specs.Float.{binary64}
 use Rattle.std.specs.Float.Ieee.{of_bits}
 use Rattle.leaves.specs.Constants.{plus_zero}
@@ -59,22 +59,31 @@ unfoldable pub plane : List ℕ → List Float
 unfolding numbers
 plane s = cond (eqb (kind s) 0) (numbers 9 (drop 8 s)) []
 
--- ---- "Each ring block: coedge count c (1 byte), then c coedges of 280 bytes: deviation, then 17 points (u, v)"
+-- ---- a list cut up: each part has the size that the list tells which it begins
 
--- the size of the block that s begins with
-unfoldable pub block_size : List ℕ → ℕ
-block_size s = 1 + 280 * get_or s 0 0
+-- the first n parts of s, one behind the other; what s lacks is cut short
+unfoldable pub cut : (List ℕ → ℕ) → ℕ → List ℕ → List (List ℕ)
+cut size zero s = []
+cut size (suc n) s = take (size s) s ∷ cut size n (drop (size s) s)
 
--- the first n blocks of s, one behind the other
-unfoldable pub cut : ℕ → List ℕ → List (List ℕ)
-unfolding block_size
-cut zero s = []
-cut (suc n) s = take (block_size s) s ∷ cut n (drop (block_size s) s)
+-- ---- "then c coedges of 280 bytes: deviation, then 17 points (u, v)". So it is in version 1. In version 2 a byte
+-- between the two says how many points the coedge has
 
--- the ring blocks of a sheet
-unfoldable pub blocks : List ℕ → List (List ℕ)
-unfolding cut head_size
-blocks s = cut (ring_count s) (drop (head_size (kind s)) s)
+-- version 1's number of points
+abbrev pub sampled : ℕ
+sampled = 17
+
+-- how many points the coedge has that s begins with
+unfoldable pub coedge_points : ℕ → List ℕ → ℕ
+coedge_points version s = cond (eqb version 2) (get_or s 8 0) sampled
+
+-- how many bytes stand before them
+unfoldable pub coedge_head : ℕ → ℕ
+coedge_head version = cond (eqb version 2) 9 8
+
+unfoldable pub coedge_size : ℕ → List ℕ → ℕ
+unfolding coedge_points coedge_head
+coedge_size version s = coedge_head version + 16 * coedge_points version s
 
 -- n points, one behind the other
 unfoldable pub points : ℕ → List ℕ → List Point
@@ -82,21 +91,33 @@ unfolding number
 points zero s = []
 points (suc n) s = point (number s) (number (drop 8 s)) ∷ points n (drop 16 s)
 
-unfoldable pub coedge : List ℕ → Coedge
-unfolding number points
-coedge s = record { deviation = number s; points = points 17 (drop 8 s) }
+unfoldable pub coedge : ℕ → List ℕ → Coedge
+unfolding number points coedge_points coedge_head
+coedge version s = record { deviation = number s; points = points (coedge_points version s) (drop (coedge_head version) s) }
 
-unfoldable pub coedges : ℕ → List ℕ → List Coedge
-unfolding coedge
-coedges zero s = []
-coedges (suc n) s = coedge s ∷ coedges n (drop 280 s)
+-- ---- "Each ring block: coedge count c (1 byte), then c coedges"
 
-unfoldable pub ring : List ℕ → List Coedge
-unfolding coedges
-ring block = coedges (get_or block 0 0) (drop 1 block)
+-- the coedges of a block, each as its bytes
+unfoldable pub coedge_parts : ℕ → List ℕ → List (List ℕ)
+unfolding cut coedge_size
+coedge_parts version block = cut (coedge_size version) (get_or block 0 0) (drop 1 block)
+
+unfoldable pub ring : ℕ → List ℕ → List Coedge
+unfolding coedge_parts coedge
+ring version block = map (coedge version) (coedge_parts version block)
+
+-- the size of the block that s begins with: its count and its coedges
+unfoldable pub block_size : ℕ → List ℕ → ℕ
+unfolding coedge_parts flatten
+block_size version s = 1 + length (flatten (coedge_parts version s))
+
+-- the ring blocks of a sheet
+unfoldable pub blocks : List ℕ → List (List ℕ)
+unfolding cut block_size head_size
+blocks s = cut (block_size (version s)) (ring_count s) (drop (head_size (kind s)) s)
 
 -- ---- the whole
 
 unfoldable pub sheet_of : List ℕ → Sheet
 unfolding plane blocks ring
-sheet_of s = record { kind = kind s; sense = sense s; plane = plane s; rings = map ring (blocks s) }
+sheet_of s = record { kind = kind s; sense = sense s; plane = plane s; rings = map (ring (version s)) (blocks s) }

@@ -3,3 +3,5 @@ pub mod Kinds
 pub mod Senses
 pub mod Layout
 pub mod Checks
+pub mod Faults
+pub mod Version1

@@ -1,11 +1,12 @@
 // The refusals 1 to 7, in the table's order.
 ghost use Rattle.std.specs.Prelude.{◌≡◌, true, false, ◌++◌};
-ghost use Rattle.sheet.specs.Layout.{plane, sheet_of};
-ghost use Rattle.sheet.specs.Checks.{length_wrong, version_wrong, kind_wrong, count_wrong, blocks_wrong, plane_wrong, layout_checks, content_checks};
+ghost use Rattle.sheet.specs.Layout.{kind, sense, ring_count, plane, sheet_of};
+ghost use Rattle.sheet.specs.Checks.{length_wrong, version_wrong, codes_wrong, ring_count_wrong, blocks_wrong, plane_wrong, layout_checks, content_checks};
 ghost use Rattle.answers.specs.Outcome.{first, status_of};
 
-use crate::fields::{byte_at, head_size, kind_of, sense_of, word};
-use crate::walk::{COORDINATE_LIMIT, any_beyond, blocks_fill, coedges_wrong, rings_wrong};
+use crate::fault::layout_fault;
+use crate::fields::{MOST_RINGS, kind_of, ring_count, sense_of, version_of, word};
+use crate::walk::{COORDINATE_LIMIT, any_beyond, coedges_wrong, rings_wrong};
 use answers::Refusal;
 
 // 2, for a component of the u axis or the normal.
@@ -24,32 +25,31 @@ fn length_wrong(s: &[u8]) -> bool
 fn version_wrong(s: &[u8]) -> bool
     ensures { result ≡ version_wrong s.now }
 {
-    byte_at(s, 4) != 1
+    version_of(s) != 1
 }
 
 // 3: a kind above 6 or a sense above 2.
-#[tactic(auto, unfolding(crate::specs::Checks::kind_wrong))]
-fn kind_wrong(s: &[u8]) -> bool
-    ensures { result ≡ kind_wrong s.now }
+#[tactic(auto, unfolding(crate::specs::Checks::codes_wrong))]
+fn codes_wrong(s: &[u8]) -> bool
+    ensures { result ≡ codes_wrong (kind s.now) (sense s.now) }
 {
     kind_of(s).is_unknown() || sense_of(s).is_unknown()
 }
 
 // 4: no ring, or more than 16.
-#[tactic(auto, unfolding(crate::specs::Checks::count_wrong))]
-fn count_wrong(s: &[u8]) -> bool
-    ensures { result ≡ count_wrong s.now }
+#[tactic(auto, unfolding(crate::specs::Checks::ring_count_wrong))]
+fn ring_count_wrong(s: &[u8]) -> bool
+    ensures { result ≡ ring_count_wrong (kind s.now) (ring_count s.now) }
 {
-    !(1..=16).contains(&byte_at(s, 7))
+    !(1..=MOST_RINGS).contains(&ring_count(s))
 }
 
 // 5: plane or ring blocks that overrun the end or leave bytes over.
-#[tactic(auto, unfolding(crate::specs::Checks::blocks_wrong))]
+#[tactic(auto, unfolding(crate::specs::Checks::blocks_wrong, crate::specs::Faults::number_of))]
 fn blocks_wrong(s: &[u8]) -> bool
     ensures { result ≡ blocks_wrong s.now }
 {
-    let from = head_size(kind_of(s));
-    s.len() < from || !blocks_fill(&s[from..], byte_at(s, 7))
+    layout_fault(s).is_some()
 }
 
 // 7, of a plane's origin, u axis and normal.
@@ -72,10 +72,10 @@ pub fn check(s: &[u8]) -> Result<(), Refusal>
     if version_wrong(s) {
         return Err(Refusal::Version);
     }
-    if kind_wrong(s) {
+    if codes_wrong(s) {
         return Err(Refusal::Kind);
     }
-    if count_wrong(s) {
+    if ring_count_wrong(s) {
         return Err(Refusal::RingCount);
     }
     if blocks_wrong(s) {

@@ -1,6 +1,6 @@
-// The fields of a sheet of version 1.
-ghost use Rattle.std.specs.Prelude.{◌≡◌, ◌+◌, ◌*◌, ◌<◌, ◌≤◌, length, get_or, take, drop};
-ghost use Rattle.sheet.specs.Layout.{big, number as number_at, number_of, kind, sense, ring_count, coedge, head_size, block_size};
+// The fields of a sheet.
+ghost use Rattle.std.specs.Prelude.{◌≡◌, ◌≤◌, length, get_or, take, drop};
+ghost use Rattle.sheet.specs.Layout.{big, number as number_at, number_of, version, kind, sense, ring_count, head_size, coedge_points, coedge_head, coedge_size};
 
 use crate::kind::Kind;
 use crate::sense::Sense;
@@ -11,12 +11,11 @@ pub const MOST_RINGS: usize = 16;
 
 pub const MOST_COEDGES: usize = 128;
 
-// A block begins with its coedge count; a coedge is a deviation and seventeen points of two f64.
-pub(crate) const BLOCK_HEAD: usize = 1;
-
-pub(crate) const COEDGE_SIZE: usize = 280;
-
+// A coedge of version 1 has so many points, one of version 2 at most so many.
 pub const COEDGE_POINTS: usize = 17;
+
+// A point is two f64.
+pub(crate) const POINT_SIZE: usize = 16;
 
 // How many points a sheet has at most, and one of at most 16 coedges, as nearly every face's is.
 pub const MOST_POINTS: usize = 2176;
@@ -63,6 +62,13 @@ pub fn number(s: &[u8], at: usize) -> f64
     float(u64::from_be_bytes(*bytes))
 }
 
+// The sheet's version.
+pub(crate) fn version_of(s: &[u8]) -> u8
+    ensures { result ≡ version s.now }
+{
+    byte_at(s, 4)
+}
+
 // The surface's kind.
 pub fn kind_of(s: &[u8]) -> Kind
     ensures { result ≡ kind s.now }
@@ -92,26 +98,32 @@ pub fn head_size(kind: Kind) -> usize
     if kind.is_plane() { 80 } else { 8 }
 }
 
-// The size of the ring block that the bytes begin with.
-#[tactic(auto, unfolding(crate::specs::Layout::block_size))]
-pub(crate) fn block_size(s: &[u8]) -> usize
-    ensures { result ≡ block_size s.now }
+// How many points the coedge has that the bytes begin with: in version 2 a byte behind its deviation says it.
+#[tactic(auto, unfolding(crate::specs::Layout::coedge_points))]
+pub(crate) fn coedge_points(version: u8, s: &[u8]) -> usize
+    ensures count { result ≡ coedge_points version s.now }
+    ensures most { result ≤ 255 }
 {
-    BLOCK_HEAD + COEDGE_SIZE * byte_at(s, 0) as usize
+    if version == 2 {
+        byte_at(s, 8) as usize
+    } else {
+        COEDGE_POINTS
+    }
 }
 
-// How many points the ring of a block has. A byte counts its coedges, so they are few.
-pub fn point_count(block: &[u8]) -> usize
-    ensures count { result ≡ 17 * get_or block.now 0 0 }
-    ensures most { result ≤ 4335 }
+// How many bytes stand before a coedge's points.
+#[tactic(auto, unfolding(crate::specs::Layout::coedge_head))]
+pub(crate) fn coedge_head(version: u8) -> usize
+    ensures size { result ≡ coedge_head version }
+    ensures most { result ≤ 9 }
 {
-    COEDGE_POINTS * byte_at(block, 0) as usize
+    if version == 2 { 9 } else { 8 }
 }
 
-// The deviation that a coedge begins with.
-#[tactic(auto, unfolding(crate::specs::Layout::coedge))]
-pub fn deviation(part: &[u8]) -> f64
-    ensures { result ≡ (coedge part.now).deviation }
+// The size of the coedge that the bytes begin with.
+#[tactic(auto, unfolding(crate::specs::Layout::coedge_size))]
+pub(crate) fn coedge_size(version: u8, s: &[u8]) -> usize
+    ensures { result ≡ coedge_size version s.now }
 {
-    number(part, 0)
+    coedge_head(version) + POINT_SIZE * coedge_points(version, s)
 }

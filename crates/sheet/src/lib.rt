@@ -4,8 +4,10 @@
 #![tactic(auto)]
 
 mod checks;
+mod fault;
 mod fields;
 mod kind;
+mod outline;
 mod parts;
 mod point;
 mod sense;
@@ -13,10 +15,10 @@ mod walk;
 
 pub use checks::check;
 pub use fields::{
-    COEDGE_POINTS, MOST_COEDGES, MOST_POINTS, MOST_RINGS, SMALL_POINTS, byte_at, deviation,
-    head_size, kind_of, number, point_count, ring_count, sense_of,
+    COEDGE_POINTS, MOST_COEDGES, MOST_POINTS, MOST_RINGS, SMALL_POINTS, head_size, kind_of, number,
+    ring_count, sense_of,
 };
 pub use kind::Kind;
-pub use parts::{BlockCoedges, CoedgePoints, RingBlocks, coedges, points, ring_blocks};
+pub use outline::{Coedge, CoedgePoints, Coedges, Outline, Ring, rings};
 pub use point::{ORIGIN, Point};
 pub use sense::Sense;

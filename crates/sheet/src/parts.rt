@@ -1,44 +1,95 @@
-// What stands in a sheet one behind the other: its ring blocks, the coedges of a block, the points of a coedge. Each
-// is an iterator that gives as many as the count before them says, of points seventeen; what the bytes' end cuts off
-// reads as zeros. They are three, since each splits off another size, gives another thing and is seen as another list:
-// one over a trait that told these would be longer.
+// The one walk over a sheet's bytes: its ring blocks, and the coedges of a block, each cut off as a part. Both are
+// iterators that give as many parts as the count before them says; what the bytes' end cuts off is cut short. They are
+// two, since each cuts by a size of its own: one over a trait that told it would be longer. What a part says is in
+// content.rt.
 ghost use Rattle.std.specs.Prelude.{◌≡◌, take, drop};
-ghost use Rattle.std.specs.Iterator.{YieldsFirst, YieldsFirstBy, item_count};
-ghost use Rattle.sheet.specs.Layout.{blocks, coedge, ring};
+ghost use Rattle.std.specs.Iterator.{YieldsFirstBy, item_count};
+ghost use Rattle.sheet.specs.Layout.{blocks, block_size, coedge_parts};
 
-use crate::fields::{
-    BLOCK_HEAD, COEDGE_POINTS, COEDGE_SIZE, block_size, byte_at, head_size, kind_of, number,
-};
-use crate::point::Point;
+use crate::fields::{byte_at, coedge_size, head_size, kind_of, version_of};
 use std::marker::Model;
 
-// A deviation is an f64, a point two.
-const DEVIATION_SIZE: usize = 8;
-
-const POINT_SIZE: usize = 16;
+// A block begins with its coedge count.
+const BLOCK_HEAD: usize = 1;
 
 // The first `size` bytes, or as many as there are, and those behind them.
-fn parted(s: &[u8], size: usize) -> (&[u8], &[u8])
+pub(crate) fn parted(s: &[u8], size: usize) -> (&[u8], &[u8])
     ensures front { result.0.now ≡ take size s.now }
     ensures back { result.1.now ≡ drop size s.now }
 {
     s.split_at(size.min(s.len()))
 }
 
+// The coedges that are left of a block, seen as the list of their bytes.
+#[derive(Drop)]
+pub(crate) struct CoedgeParts<'a> {
+    version: u8,
+    rest: &'a [u8],
+    left: u8,
+}
+
+impl<'a> Model for CoedgeParts<'a> {
+    ghost use Rattle.std.specs.Prelude.{ℕ, List};
+    ghost use Rattle.sheet.specs.Layout.{cut, coedge_size};
+
+    ghost Value = { List (List ℕ) };
+
+    ghost view = { λ c. cut (coedge_size c.version) c.left c.rest.now };
+}
+
+impl<'a> Iterator for CoedgeParts<'a> {
+    type Item = &'a [u8];
+
+    ghost next_gives = { YieldsFirstBy (λ part. part.now) (λ rest. rest) };
+
+    ghost remaining = { item_count (λ rest. rest) };
+
+    fn next(&mut self) -> Option<&'a [u8]> {
+        self.left = self.left.checked_sub(1)?;
+        let (part, rest) = parted(self.rest, coedge_size(self.version, self.rest));
+        self.rest = rest;
+        Some(part)
+    }
+}
+
+// The coedges of a ring block.
+pub(crate) fn coedge_parts(version: u8, block: &[u8]) -> CoedgeParts<'_>
+    ensures { result ≡ coedge_parts version block.now }
+{
+    let (_head, rest) = parted(block, BLOCK_HEAD);
+    CoedgeParts {
+        version,
+        rest,
+        left: byte_at(block, 0),
+    }
+}
+
+// The size of the ring block that the bytes begin with.
+fn block_size(version: u8, s: &[u8]) -> usize
+    ensures { result ≡ block_size version s.now }
+{
+    let mut size = BLOCK_HEAD;
+    for part in coedge_parts(version, s) {
+        size += part.len();
+    }
+    size
+}
+
 // The ring blocks that are left, seen as the list of their bytes.
 #[derive(Drop)]
-pub struct RingBlocks<'a> {
+pub(crate) struct RingBlocks<'a> {
+    version: u8,
     rest: &'a [u8],
     left: u8,
 }
 
 impl<'a> Model for RingBlocks<'a> {
     ghost use Rattle.std.specs.Prelude.{ℕ, List};
-    ghost use Rattle.sheet.specs.Layout.{cut};
+    ghost use Rattle.sheet.specs.Layout.{cut, block_size};
 
     ghost Value = { List (List ℕ) };
 
-    ghost view = { λ b. cut b.left b.rest.now };
+    ghost view = { λ b. cut (block_size b.version) b.left b.rest.now };
 }
 
 impl<'a> Iterator for RingBlocks<'a> {
@@ -50,109 +101,20 @@ impl<'a> Iterator for RingBlocks<'a> {
 
     fn next(&mut self) -> Option<&'a [u8]> {
         self.left = self.left.checked_sub(1)?;
-        let (block, rest) = parted(self.rest, block_size(self.rest));
+        let (block, rest) = parted(self.rest, block_size(self.version, self.rest));
         self.rest = rest;
         Some(block)
     }
 }
 
 // The ring blocks of a sheet.
-pub fn ring_blocks(s: &[u8]) -> RingBlocks<'_>
+pub(crate) fn ring_blocks(s: &[u8]) -> RingBlocks<'_>
     ensures { result ≡ blocks s.now }
 {
     let (_head, rest) = parted(s, head_size(kind_of(s)));
     RingBlocks {
+        version: version_of(s),
         rest,
         left: byte_at(s, 7),
-    }
-}
-
-// The coedges that are left of a block, seen as the list of them.
-#[derive(Drop)]
-pub struct BlockCoedges<'a> {
-    rest: &'a [u8],
-    left: u8,
-}
-
-impl<'a> Model for BlockCoedges<'a> {
-    ghost use Rattle.std.specs.Prelude.{List};
-    ghost use Rattle.sheet.specs.Content.{Coedge};
-    ghost use Rattle.sheet.specs.Layout.{coedges};
-
-    ghost Value = { List Coedge };
-
-    ghost view = { λ c. coedges c.left c.rest.now };
-}
-
-impl<'a> Iterator for BlockCoedges<'a> {
-    type Item = &'a [u8];
-
-    ghost next_gives = { YieldsFirstBy (λ part. coedge part.now) (λ rest. rest) };
-
-    ghost remaining = { item_count (λ rest. rest) };
-
-    fn next(&mut self) -> Option<&'a [u8]> {
-        self.left = self.left.checked_sub(1)?;
-        let (part, rest) = parted(self.rest, COEDGE_SIZE);
-        self.rest = rest;
-        Some(part)
-    }
-}
-
-// The coedges of a ring block, each as its bytes.
-pub fn coedges(block: &[u8]) -> BlockCoedges<'_>
-    ensures { result ≡ ring block.now }
-{
-    let (_head, rest) = parted(block, BLOCK_HEAD);
-    BlockCoedges {
-        rest,
-        left: byte_at(block, 0),
-    }
-}
-
-// The points that are left of a coedge, seen as the list of them.
-#[derive(Drop)]
-pub struct CoedgePoints<'a> {
-    rest: &'a [u8],
-    left: usize,
-}
-
-impl<'a> Model for CoedgePoints<'a> {
-    ghost use Rattle.std.specs.Prelude.{List};
-    ghost use Rattle.sheet.specs.Content.{Point as point_type};
-    ghost use Rattle.sheet.specs.Layout.{points};
-
-    ghost Value = { List point_type };
-
-    ghost view = { λ p. points p.left p.rest.now };
-}
-
-impl<'a> Iterator for CoedgePoints<'a> {
-    type Item = Point;
-
-    ghost next_gives = { YieldsFirst (λ rest. rest) };
-
-    ghost remaining = { item_count (λ rest. rest) };
-
-    fn next(&mut self) -> Option<Point> {
-        self.left = self.left.checked_sub(1)?;
-        let point = Point {
-            u: number(self.rest, 0),
-            v: number(self.rest, 8),
-        };
-        let (_read, rest) = parted(self.rest, POINT_SIZE);
-        self.rest = rest;
-        Some(point)
-    }
-}
-
-// The points of a coedge, which stand behind its deviation.
-pub fn points(part: &[u8]) -> CoedgePoints<'_>
-    ensures { result ≡ (coedge part.now).points }
-{
-    let (_deviation, rest) = parted(part, DEVIATION_SIZE);
-    CoedgePoints {
-        rest,
-        left: COEDGE_POINTS,
     }
 }

@@ -1,14 +1,14 @@
-// The checks of the ring blocks and their numbers.
-ghost use Rattle.std.specs.Prelude.{◌≡◌, map, ◌&&◌, ◌*◌, ◌+◌, ◌≤◌, drop};
+// The checks of the rings and their numbers.
+ghost use Rattle.std.specs.Prelude.{◌≡◌, ◌&&◌, ◌≤◌, drop};
 ghost use Rattle.std.specs.Float.Ieee.{le, lt};
 ghost use Rattle.leaves.specs.Constants.{plus_zero, deviation_limit};
 ghost use Rattle.answers.specs.Lists.{any_of};
 ghost use Rattle.answers.specs.Limits.{beyond};
-ghost use Rattle.sheet.specs.Layout.{blocks, ring, coedge, numbers};
-ghost use Rattle.sheet.specs.Checks.{fill, coedge_wrong, point_wrong, ring_wrong, coedges_wrong};
+ghost use Rattle.sheet.specs.Layout.{numbers, sheet_of};
+ghost use Rattle.sheet.specs.Checks.{coedge_wrong, point_wrong, ring_wrong, coedges_wrong};
 
-use crate::fields::{MOST_COEDGES, block_size, byte_at, deviation, number};
-use crate::parts::{coedges, points, ring_blocks};
+use crate::fields::{MOST_COEDGES, number};
+use crate::outline::{Coedge, Ring, rings};
 use crate::point::Point;
 use answers::is_beyond;
 use leaves::constants::DEVIATION_LIMIT;
@@ -40,53 +40,39 @@ fn is_deviation(x: f64) -> bool
     0.0 <= x && x < DEVIATION_LIMIT
 }
 
-// Check 7 of a coedge, which is a part of the sheet.
+// Check 7 of a coedge.
 #[tactic(auto, unfolding(crate::specs::Checks::coedge_wrong))]
-fn coedge_wrong(part: &[u8]) -> bool
-    ensures { result ≡ coedge_wrong (coedge part.now) }
+fn coedge_wrong(coedge: Coedge) -> bool
+    ensures { result ≡ coedge_wrong coedge.entry }
 {
-    !is_deviation(deviation(part)) || points(part).any(point_wrong)
+    !is_deviation(coedge.deviation()) || coedge.points().any(point_wrong)
 }
 
-// Check 7 of a ring, whose block is a part of the sheet.
-fn ring_wrong(block: &[u8]) -> bool
-    ensures { result ≡ ring_wrong (ring block.now) }
+// Check 7 of a ring.
+fn ring_wrong(ring: Ring) -> bool
+    ensures { result ≡ ring_wrong ring.entry }
 {
-    coedges(block).any(coedge_wrong)
-}
-
-// Whether `s` is `count` blocks, one behind the other, and nothing more.
-pub(crate) fn blocks_fill(s: &[u8], count: u8) -> bool
-    ensures { result ≡ fill count s.now }
-{
-    let mut rest = s;
-    for _ in 0..count {
-        match rest.get(block_size(rest)..) {
-            Some(behind) => rest = behind,
-            None => return false,
-        }
-    }
-    rest.is_empty()
+    ring.coedges().any(coedge_wrong)
 }
 
 // Check 6 of the rings.
 pub(crate) fn coedges_wrong(s: &[u8]) -> bool
-    ensures { result ≡ coedges_wrong (map ring (blocks s.now)) }
+    ensures { result ≡ coedges_wrong (sheet_of s.now).rings }
 {
     let mut total: usize = 0;
-    for block in ring_blocks(s) {
-        let coedges = byte_at(block, 0) as usize;
-        if coedges == 0 {
+    for ring in rings(s) {
+        let count = ring.coedge_count();
+        if count == 0 {
             return true;
         }
-        total += coedges;
+        total += count;
     }
     MOST_COEDGES < total
 }
 
 // Check 7 of the rings.
 pub(crate) fn rings_wrong(s: &[u8]) -> bool
-    ensures { result ≡ any_of ring_wrong (map ring (blocks s.now)) }
+    ensures { result ≡ any_of ring_wrong (sheet_of s.now).rings }
 {
-    ring_blocks(s).any(ring_wrong)
+    rings(s).any(ring_wrong)
 }

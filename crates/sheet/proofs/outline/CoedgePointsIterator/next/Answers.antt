@@ -1,7 +1,7 @@
 -- The next point is the first of those that are left, and leaves the rest.
 use Rattle.std.proofs.Common.{rules}
 use Rattle.sheet.proofs.Items.{points_more, points_none}
-use Rattle.sheet.proofs.parts.CoedgePointsIterator.next.Goals as goal
+use Rattle.sheet.proofs.outline.CoedgePointsIterator.next.Goals as goal
 
 pub returns-in_err-self-inside-clause-steps : goal.returns-in_err-self-inside-clause-steps
 returns-in_err-self-inside-clause-steps c = let none = points_none _ c.self.inside.rest.now c.in_err-self-inside.ensures in search rules
