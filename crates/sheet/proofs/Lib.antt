@@ -14,6 +14,6 @@ pub mod Planes
 -- the checks, and what holds of a sheet that passes them
 pub mod Checked
 -- a sheet's ring blocks in another order
+pub mod Version1
 pub mod BlockOrder
 -- how long a sheet can be
-pub mod Sizes
