@@ -180,6 +180,7 @@ ring_number s = length-map (blocks s) (ring (version s)) ∙ blocks_length s
 -- ---- a sheet that passes: the checks down to 7
 
 pub record Checked (s : List ℕ) : Type 0 where
+  pub reads : first (layout_checks s) ≡ 0
   pub layout : Laid s
   pub coedges_right : coedges_wrong (sheet_of s).rings ≡ false
   pub numbers_right : numbers_wrong (sheet_of s) ≡ false
@@ -222,6 +223,7 @@ checked s e =
     let between = points_between (sheet_of s).rings (rings_sampled s layout.faultless) in
     let some = some_coedge (sheet_of s).rings (omega (arith, ring_number s, layout.rings_least)) counts.0 in
     record {
+      reads = parts.0;
       layout = layout;
       coedges_right = p.0;
       numbers_right = p.1.0;
