@@ -108,7 +108,7 @@ module _ (s : List ℕ) (reads : first (layout_checks s) ≡ 0) where
     same_field : length_field t ≡ length_field s
     same_field = let m = head_long in ap big (front_take (head s) (flatten bs) (flatten (blocks s)) 4 (omega arith) ∙ sym (ap (take 4) whole))
 
-    same_version : version t ≡ version s
+    pub same_version : version t ≡ version s
     same_version = same_at 4 (omega arith)
 
     same_kind : kind t ≡ kind s

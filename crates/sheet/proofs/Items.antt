@@ -36,10 +36,6 @@ points_none n s h = let none : n ≡ 0 = omega arith in rw none
 
 -- ---- tests of any of them
 
-pub any_mapped : {A B : Type 0} (test : B → Bool) (f : A → B) (xs : List A) → list_any (λ (x : A). test (f x)) xs ≡ any_of test (map f xs)
-any_mapped test f [] = refl
-any_mapped test f (x ∷ xs) = ap (λ (b : Bool). test (f x) || b) (any_mapped test f xs)
-
 -- numbers that are read in equal steps
 pub any_number : (test : Float → Bool) (s : List ℕ) (from n k : ℕ) → list_any (λ (i : ℕ). test (number (drop (from + 8 * i) s))) (range_with_len k n) ≡ any_of test (numbers n (drop (from + 8 * k) s))
 unfolding numbers
@@ -54,7 +50,3 @@ any_number test s from (suc n) k =
 pub folded : {S A : Type 0} (step : S → A → S) (s : S) (xs : List A) → fold step s xs ≡ foldl step s xs
 folded step s [] = refl
 folded step s (x ∷ xs) = folded step (step s x) xs
-
-pub folded_mapped : {S A B : Type 0} (step : S → B → S) (f : A → B) (s : S) (xs : List A) → fold (λ (t : S) (x : A). step t (f x)) s xs ≡ foldl step s (map f xs)
-folded_mapped step f s [] = refl
-folded_mapped step f s (x ∷ xs) = folded_mapped step f (step s (f x)) xs
