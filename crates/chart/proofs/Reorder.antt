@@ -10,7 +10,7 @@ use lib.ListN.{length}
 use lib.Ieee.{Float}
 use Rattle.leaves.proofs.Folds.{All}
 use Rattle.sheet.specs.Content.{Coedge, Sheet, ring_points}
-use Rattle.sheet.specs.Layout.{head, blocks, ring, sheet_of}
+use Rattle.sheet.specs.Layout.{version, head, blocks, ring, sheet_of}
 use Rattle.answers.specs.Outcome.{first, Numbers, settled}
 use Rattle.sheet.specs.Checks.{layout_checks}
 use Rattle.sheet.proofs.BlockOrder.{its_blocks, its_layout, its_rings, its_sheet, rings_clear, whole, with_rings}
@@ -44,7 +44,7 @@ module _ (s : List ℕ) (reads : first (layout_checks s) ≡ 0) (bs : List (List
   same_numbers phase out =
       content_numbers (head s ++ flatten bs) (its_layout s reads bs d) phase out
       ∙ ap (λ (z : Sheet). numbers_of z phase (length out)) (its_sheet s reads bs d)
-      ∙ sym (content_reordered (sheet_of s) (map ring bs) (its_rings s reads bs d) (rings_clear s) phase (length out))
+      ∙ sym (content_reordered (sheet_of s) (map (ring (version s)) bs) (its_rings s reads bs d) (rings_clear s) phase (length out))
       ∙ sym (content_numbers s reads phase out)
 
   pub chart_reordered : (s ≡ head s ++ flatten (blocks s)) × (first (layout_checks (head s ++ flatten bs)) ≡ 0) × (blocks (head s ++ flatten bs) ≡ bs)

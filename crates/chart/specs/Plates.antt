@@ -1,14 +1,14 @@
--- Document 01, "Plates to hold against it": the square, the ring at half height, and plate A as a sheet's content and
--- as the bytes that say it. No contract cites them: the theorem in proofs/Plates.antt does.
-use Rattle.std.specs.Prelude.{◌≡◌, true, false, ℕ, zero, suc, ◌-◌, ◌/◌, ◌%◌, ◌^◌, ◌≤◌, pos, negsuc, length, Float}
-use mathlib.Core.List.{List, [], ◌∷◌, ◌++◌, map, flat_map, reverse}
+-- Document 01, "Plates to hold against it": the square, the ring at half height, and plate A as a sheet's content. No contract cites them: the theorem in proofs/Plates.antt does.
+use Rattle.std.specs.Prelude.{◌≡◌, true, false, ℕ, ◌-◌, ◌^◌, ◌≤◌, pos, negsuc, length, Float}
+use mathlib.Core.List.{List, [], ◌∷◌, ◌++◌, map, reverse}
 use Rattle.std.specs.Float.{binary64}
-use Rattle.std.specs.Float.Ieee.{round, of_bits, to_bits}
+use Rattle.std.specs.Float.Ieee.{round, of_bits}
 use Rattle.leaves.specs.Constants.{plus_zero, decimal, one}
 use Rattle.leaves.specs.Root.{root_of}
 use Rattle.leaves.specs.Round.{round_of}
 use Rattle.sheet.specs.Content.{Point, point, Coedge, Sheet}
 use Rattle.sheet.specs.Layout.{sheet_of}
+use Rattle.sheet.specs.Writing.{sheet_bytes}
 use Rattle.points.specs.Grid.{up_from}
 use Rattle.inside.specs.Inside.{inside_of}
 use Rattle.coverage.specs.Coverage.{winding_of}
@@ -69,38 +69,6 @@ plate_a last = record {
 -- (0, 2^−k), for its last point
 abbrev pub raised : ℕ → Point
 raised k = point plus_zero (fraction 1 (2 ^ k))
-
--- ---- the bytes of a sheet of version 1
-
--- n in so many bytes, big-endian
-unfoldable pub bytes : ℕ → ℕ → List ℕ
-bytes zero n = []
-bytes (suc k) n = n / 256 ^ k % 256 ∷ bytes k n
-
-unfoldable pub number_bytes : Float → List ℕ
-unfolding bytes to_bits
-number_bytes x = bytes 8 (to_bits binary64 x)
-
-unfoldable pub point_bytes : Point → List ℕ
-unfolding number_bytes
-point_bytes p = number_bytes p.u ++ number_bytes p.v
-
-unfoldable pub coedge_bytes : Coedge → List ℕ
-unfolding number_bytes point_bytes flat_map
-coedge_bytes c = number_bytes c.deviation ++ flat_map point_bytes c.points
-
-unfoldable pub ring_bytes : List Coedge → List ℕ
-unfolding coedge_bytes flat_map
-ring_bytes ring = length ring ∷ flat_map coedge_bytes ring
-
--- what follows the length
-unfoldable pub body : Sheet → List ℕ
-unfolding number_bytes ring_bytes flat_map
-body s = 1 ∷ s.kind ∷ s.sense ∷ length s.rings ∷ flat_map number_bytes s.plane ++ flat_map ring_bytes s.rings
-
-unfoldable pub sheet_bytes : Sheet → List ℕ
-unfolding bytes body
-sheet_bytes s = bytes 4 (length (body s)) ++ body s
 
 -- ---- the rows marked ●, "stated jointly as a single proved list"
 

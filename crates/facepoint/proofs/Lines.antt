@@ -1,7 +1,7 @@
 -- Laws about the line: a page that has room for what is written at its start begins with it.
 use Rattle.std.proofs.Common.{◌≡◌, ℕ, ◌≤◌, List, length, take, refl}
-use Rattle.text.specs.Page.{behind, laid}
-use Rattle.text.proofs.Pages.{put_first}
+use Rattle.buffer.specs.Page.{behind, laid}
+use Rattle.buffer.proofs.Pages.{put_first}
 use Rattle.text.proofs.Lines.{point_line_length, refusal_line_length}
 
 module _ (bytes page : List ℕ) (h : length bytes ≤ length page) where

@@ -16,10 +16,10 @@ fn any_ring_near(s: &[u8], reach: Reach, p: Place, images: &[f64]) -> bool
     ensures { result ≡ foldl (any_near reach.limit p) false (ring_images (sheet_of s.now).rings images.now) }
 {
     let mut rest = images;
-    for block in sheet::ring_blocks(s) {
-        let count = 3 * sheet::point_count(block);
-        let (ring, behind) = rest.split_at(count.min(rest.len()));
-        if reach.is_ring_near(p, Places { list: ring }) {
+    for ring in sheet::rings(s) {
+        let count = 3 * ring.point_count();
+        let (own, behind) = rest.split_at(count.min(rest.len()));
+        if reach.is_ring_near(p, Places { list: own }) {
             return true;
         }
         rest = behind;

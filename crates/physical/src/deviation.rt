@@ -1,16 +1,17 @@
 // The greatest deviation, and what 15 asks of the physical clearance by it.
 ghost use Rattle.std.specs.Prelude.{◌≡◌};
-ghost use Rattle.sheet.specs.Layout.{ring, sheet_of};
+ghost use Rattle.sheet.specs.Layout.{sheet_of};
 ghost use Rattle.physical.specs.Physical.{deviates, greatest_deviation, physical_least};
 
 use leaves::constants::PHYSICAL_LIMIT;
+use sheet::Ring;
 
-// The larger of `most` and the deviations of the coedges of a ring, whose block is a part of the sheet.
-fn larger_deviation(most: f64, block: &[u8]) -> f64
-    ensures { result ≡ deviates most (ring block.now) }
+// The larger of `most` and the deviations of a ring's coedges.
+fn larger_deviation(most: f64, ring: Ring) -> f64
+    ensures { result ≡ deviates most ring.entry }
 {
-    sheet::coedges(block).fold(most, |found, coedge| {
-        leaves::larger_of(found, sheet::deviation(coedge))
+    ring.coedges().fold(most, |found, coedge| {
+        leaves::larger_of(found, coedge.deviation())
     })
 }
 
@@ -18,7 +19,7 @@ fn larger_deviation(most: f64, block: &[u8]) -> f64
 fn greatest_deviation(s: &[u8]) -> f64
     ensures { result ≡ greatest_deviation (sheet_of s.now).rings }
 {
-    sheet::ring_blocks(s).fold(0.0, larger_deviation)
+    sheet::rings(s).fold(0.0, larger_deviation)
 }
 
 // The larger of 8 x greatest deviation and 1e-7: a physical clearance has to be above it.

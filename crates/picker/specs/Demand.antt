@@ -6,7 +6,7 @@ use mathlib.Core.List.{List, [], ◌∷◌, ◌++◌, map, flatten, Permᴰ}
 use Rattle.answers.specs.Outcome.{first, Numbers, refused}
 use Rattle.space.specs.declared.vectors.Place.{Place}
 use Rattle.sheet.specs.Content.{Point, point, Sheet}
-use Rattle.sheet.specs.Layout.{head, blocks, ring, sheet_of}
+use Rattle.sheet.specs.Layout.{version, head, blocks, ring, sheet_of}
 use Rattle.sheet.specs.Checks.{layout_checks}
 use Rattle.frame.specs.Framing.{frame, point_count}
 use Rattle.chart.specs.Chart.{answered, chart_checks, chart_of}
@@ -27,10 +27,15 @@ pub record Imaged : Type 0 where
   pub block : List ℕ
   pub images : List Float
 
--- the blocks of a sheet with their images, as many of each as the block's own coedge count says
-unfoldable pub imaged : List (List ℕ) → List Float → List Imaged
-imaged [] images = []
-imaged (b ∷ bs) images = record { block = b; images = take (image_numbers (ring b)) images } ∷ imaged bs (drop (image_numbers (ring b)) images)
+-- blocks of this version with their images, as many of each as its own ring has
+unfoldable pub imaged_blocks : ℕ → List (List ℕ) → List Float → List Imaged
+imaged_blocks version [] images = []
+imaged_blocks version (b ∷ bs) images = record { block = b; images = take (image_numbers (ring version b)) images } ∷ imaged_blocks version bs (drop (image_numbers (ring version b)) images)
+
+-- the blocks of a sheet with their images
+unfoldable pub imaged : List ℕ → List Float → List Imaged
+unfolding imaged_blocks
+imaged s images = imaged_blocks (version s) (blocks s) images
 
 -- the sheet whose blocks are these, behind the head of s
 unfoldable pub sheet_with : List ℕ → List Imaged → List ℕ
@@ -80,14 +85,14 @@ pub record Demand3 : Type 0 where
       → (s ≡ head s ++ flatten (blocks s)) × (first (layout_checks (head s ++ flatten bs)) ≡ 0) × (blocks (head s ++ flatten bs) ≡ bs)
       × ((phase : ℕ) (out : List Float) → (chart_of (head s ++ flatten bs) phase out).numbers ≡ (chart_of s phase out).numbers)
   -- images of the right length: each ring's go where its block goes, and the last stays
-  pub image_order : (s : List ℕ) (reads : first (layout_checks s) ≡ 0) (images : List Float) (right : length images ≡ 3 * (point_count (sheet_of s) + 1)) (parts : List Imaged) (d : Permᴰ (imaged (blocks s) images) parts)
-      → (s ≡ sheet_with s (imaged (blocks s) images)) × (images ≡ images_with s images (imaged (blocks s) images))
+  pub image_order : (s : List ℕ) (reads : first (layout_checks s) ≡ 0) (images : List Float) (right : length images ≡ 3 * (point_count (sheet_of s) + 1)) (parts : List Imaged) (d : Permᴰ (imaged s images) parts)
+      → (s ≡ sheet_with s (imaged s images)) × (images ≡ images_with s images (imaged s images))
       × (first (layout_checks (sheet_with s parts)) ≡ 0) × (blocks (sheet_with s parts) ≡ map (λ (r : Imaged). r.block) parts)
-      × (imaged (blocks (sheet_with s parts)) (images_with s images parts) ≡ parts)
+      × (imaged (sheet_with s parts) (images_with s images parts) ≡ parts)
       × ((phase : ℕ) → image_pick_of (sheet_with s parts) phase (images_with s images parts) ≡ image_pick_of s phase images)
   -- every order of the blocks is one of blocks with their images
   pub image_every_order : (s : List ℕ) (images : List Float) (bs : List (List ℕ)) → Permᴰ (blocks s) bs
-      → (parts : List Imaged) × Permᴰ (imaged (blocks s) images) parts × (map (λ (r : Imaged). r.block) parts ≡ bs)
+      → (parts : List Imaged) × Permᴰ (imaged s images) parts × (map (λ (r : Imaged). r.block) parts ≡ bs)
   -- a list of wrong length stays as it is
   pub image_order_wrong_length : (s : List ℕ) (reads : first (layout_checks s) ≡ 0) (bs : List (List ℕ)) (d : Permᴰ (blocks s) bs) (images : List Float) → (length images ≡ 3 * (point_count (sheet_of s) + 1) → ⊥)
       → (phase : ℕ) → image_pick_of (head s ++ flatten bs) phase images ≡ image_pick_of s phase images

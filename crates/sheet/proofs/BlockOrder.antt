@@ -3,22 +3,25 @@
 -- its blocks are those, and it says the same but for the rings' order.
 use mathlib.Core.Path.{◌≡◌, refl, sym, ap, ap₂, ◌∙◌, subst}
 use mathlib.Core.Bool.{Bool, true, false, not, cond, ◌||◌}
-use mathlib.Core.List.{List, [], ◌∷◌, ◌++◌, map, flatten, Permᴰ}
+use mathlib.Core.List.{List, [], ◌∷◌, ◌++◌, map, flatten, append-nil, Permᴰ}
 use Prim.Native.Nat.{ℕ, zero, suc, ◌+◌, ◌-◌, ◌*◌, ◌≤◌, ◌<◌}
 use native.Mathlib.Omega.{arith}
 use lib.Dec.{eqb, ltb}
 use lib.ListN.{length, get_or, take, drop, length-append, length-drop, get_or-append, take-append-drop}
-use lib.Seq.{length-take-le, take-append-le, drop-append-le, drop_at}
-use borrow.Author.Tests.{le-ltb}
+use lib.Seq.{length-take-le, take-append-le, drop-append-le, take_at, drop_at}
+use borrow.Author.Tests.{le-ltb, ltb-false}
+use Rattle.std.proofs.lemmas.List.{nil_from_length}
 use lib.Ieee.{Float}
 use Rattle.leaves.specs.Constants.{plus_zero}
 use Rattle.leaves.proofs.Folds.{All, all_of, all_perm}
 use Rattle.sheet.specs.Content.{Coedge, Sheet, ring_points}
-use Rattle.sheet.specs.Layout.{big, number_of, number, numbers, length_field, version, kind, sense, ring_count, head_size, head, plane, cut, blocks, ring, sheet_of}
+use Rattle.sheet.specs.Layout.{big, number_of, number, numbers, length_field, version, kind, sense, ring_count, head_size, head, plane, cut, block_size, blocks, ring, sheet_of}
 use Rattle.answers.specs.Outcome.{first}
-use Rattle.sheet.specs.Checks.{length_wrong, version_wrong, kind_wrong, count_wrong, fill, blocks_wrong, layout_checks}
-use Rattle.sheet.proofs.Blocks.{Block, whole_cut, cut_length, cut_blocks, cut_flatten, fill_flatten}
+use Rattle.sheet.specs.Checks.{length_wrong, version_wrong, codes_wrong, ring_count_wrong, first_fault, block_fault, bytes_over, layout_fault, blocks_wrong, layout_checks}
+use Rattle.sheet.proofs.Blocks.{blocks_cut, blocks_length, blocks_whole}
+use Rattle.sheet.proofs.Cuts.{CutOff, behind, cut_back, faults_none}
 use Rattle.sheet.proofs.Checked.{laid}
+use Rattle.sheet.proofs.Walks.{head_length as length_of_head}
 use Rattle.answers.proofs.FirstCheck.{first_none}
 use Rattle.answers.proofs.Permutations.{perm_length, flatten_perm, map_perm, all_map}
 use Rattle.sheet.proofs.Reading.{ClearPoint, ClearDeviation, ring_clear, ring_deviations}
@@ -69,26 +72,27 @@ front_numbers (suc n) h x y l =
 -- ---- a sheet whose layout reads, and its blocks in another order
 
 module _ (s : List ℕ) (reads : first (layout_checks s) ≡ 0) where
-  head_length : length (head s) ≡ head_size (kind s)
-  unfolding head
-  head_length = length-take-le (head_size (kind s)) s (laid s reads).head_fits
+  pub head_length : length (head s) ≡ head_size (kind s)
+  head_length = length_of_head s (laid s reads).head_fits
 
   head_long : 8 ≤ length (head s)
-  head_long = subst (λ (n : ℕ). 8 ≤ n) (sym head_length) (head_size_least (kind s))
+  head_long = omega (arith, head_length, head_size_least (kind s))
 
   -- the sheet is its head and its blocks
   pub whole : s ≡ head s ++ flatten (blocks s)
-  unfolding head blocks
+  unfolding head bytes_over
   whole =
-      sym (ap (λ (l : List ℕ). take (head_size (kind s)) s ++ l) (whole_cut (ring_count s) (drop (head_size (kind s)) s) (laid s reads).filled) ∙ take-append-drop (head_size (kind s)) s)
+      let h = head_size (kind s) in
+      let all : flatten (blocks s) ++ left_over ≡ drop h s = blocks_whole s in
+      let bytes : head s ++ (flatten (blocks s) ++ left_over) ≡ s = ap (λ (l : List ℕ). head s ++ l) all ∙ take-append-drop h s in
+      let none : left_over ≡ [] = nil_from_length left_over (omega (arith, ltb-false _ _ (laid s reads).none_over, ap length bytes, length-append (head s) (flatten (blocks s) ++ left_over), length-append (flatten (blocks s)) left_over, length-append (head s) (flatten (blocks s)))) in
+      sym bytes ∙ ap (λ (l : List ℕ). head s ++ l) (ap (λ (l : List ℕ). flatten (blocks s) ++ l) none ∙ append-nil (flatten (blocks s)))
+    where
+      left_over : List ℕ
+      left_over = behind (block_size (version s)) (ring_count s) (drop (head_size (kind s)) s)
 
-  blocks_length : length (blocks s) ≡ ring_count s
-  unfolding blocks
-  blocks_length = cut_length (ring_count s) (drop (head_size (kind s)) s)
-
-  blocks_are : All Block (blocks s)
-  unfolding blocks
-  blocks_are = cut_blocks (ring_count s) (drop (head_size (kind s)) s) (laid s reads).filled
+  blocks_off : All (CutOff (block_size (version s))) (blocks s)
+  blocks_off = blocks_cut s (laid s reads).faultless
 
   module _ (bs : List (List ℕ)) (d : Permᴰ (blocks s) bs) where
     abbrev t : List ℕ
@@ -104,7 +108,7 @@ module _ (s : List ℕ) (reads : first (layout_checks s) ≡ 0) where
     same_field : length_field t ≡ length_field s
     same_field = let m = head_long in ap big (front_take (head s) (flatten bs) (flatten (blocks s)) 4 (omega arith) ∙ sym (ap (take 4) whole))
 
-    same_version : version t ≡ version s
+    pub same_version : version t ≡ version s
     same_version = same_at 4 (omega arith)
 
     same_kind : kind t ≡ kind s
@@ -117,7 +121,7 @@ module _ (s : List ℕ) (reads : first (layout_checks s) ≡ 0) where
     same_count = same_at 7 (omega arith)
 
     count_is : ring_count t ≡ length bs
-    count_is = same_count ∙ sym blocks_length ∙ perm_length d
+    count_is = same_count ∙ sym (blocks_length s) ∙ perm_length d
 
     behind_head : drop (head_size (kind t)) t ≡ flatten bs
     behind_head = ap (λ (k : ℕ). drop (head_size k) t) same_kind ∙ drop_at (head s) (flatten bs) (head_size (kind s)) head_length
@@ -125,10 +129,11 @@ module _ (s : List ℕ) (reads : first (layout_checks s) ≡ 0) where
     -- its blocks are those
     pub its_blocks : blocks t ≡ bs
     unfolding blocks
-    its_blocks = ap₂ cut count_is behind_head ∙ cut_flatten bs (all_perm Block d blocks_are)
-
-    its_fill : fill (ring_count t) (drop (head_size (kind t)) t) ≡ true
-    its_fill = ap₂ fill count_is behind_head ∙ fill_flatten bs (all_perm Block d blocks_are)
+    its_blocks =
+        let size = block_size (version s) in
+        ap₂ (λ (v n : ℕ). cut (block_size v) n (drop (head_size (kind t)) t)) same_version count_is
+        ∙ ap (cut size (length bs)) (behind_head ∙ sym (append-nil (flatten bs)))
+        ∙ cut_back size bs (all_perm (CutOff size) d blocks_off) []
 
     same_numbers : head_size (kind s) ≡ 80 → numbers 9 (drop 8 t) ≡ numbers 9 (drop 8 s)
     same_numbers e =
@@ -154,46 +159,51 @@ module _ (s : List ℕ) (reads : first (layout_checks s) ≡ 0) where
     unfolding version_wrong
     same_version_wrong = ap (λ (n : ℕ). not (eqb n 1)) same_version
 
-    same_kind_wrong : kind_wrong t ≡ kind_wrong s
-    unfolding kind_wrong
-    same_kind_wrong = ap₂ (λ (k n : ℕ). ltb 6 k || ltb 2 n) same_kind same_sense
+    its_faults : first_fault (block_fault (version t)) (blocks t) ≡ 0
+    its_faults =
+        let fault = block_fault (version s) in
+        ap₂ (λ (v : ℕ) (l : List (List ℕ)). first_fault (block_fault v) l) same_version its_blocks ∙ faults_none fault bs (all_perm (λ (b : List ℕ). fault b ≡ 0) d (laid s reads).faultless)
 
-    same_count_wrong : count_wrong t ≡ count_wrong s
-    unfolding count_wrong
-    same_count_wrong = ap (λ (n : ℕ). eqb n 0 || ltb 16 n) same_count
+    its_head : head t ≡ head s
+    unfolding head
+    its_head = ap (λ (k : ℕ). take (head_size k) t) same_kind ∙ take_at (head s) (flatten bs) (head_size (kind s)) head_length
+
+    none_over : bytes_over t ≡ false
+    unfolding bytes_over
+    none_over = ap₂ (λ (h : List ℕ) (l : List (List ℕ)). ltb (length (h ++ flatten l)) (length t)) its_head its_blocks ∙ le-ltb (length t) (length t) (omega arith)
 
     its_fit : blocks_wrong t ≡ false
-    unfolding blocks_wrong
+    unfolding blocks_wrong layout_fault
     its_fit =
-        let f = (laid s reads).head_fits in
-        ap₂ (λ (a b : Bool). a || not b) (ap₂ (λ (n k : ℕ). ltb n (head_size k)) same_length same_kind ∙ le-ltb (length s) (head_size (kind s)) f) its_fill
+        let f : ltb (length t) (head_size (kind t)) ≡ false = le-ltb _ _ (omega (arith, same_length, ap head_size same_kind, (laid s reads).head_fits)) in
+        rw (f, its_faults, none_over) refl
 
     -- its layout reads
     pub its_layout : first (layout_checks t) ≡ 0
     unfolding layout_checks
     its_layout =
         let l = laid s reads in
-        first_none (layout_checks t) (same_length_wrong ∙ l.length_right, (same_version_wrong ∙ l.version_right, (same_kind_wrong ∙ l.kind_right, (same_count_wrong ∙ l.count_right, (its_fit, tt)))))
+        first_none (layout_checks t) (same_length_wrong ∙ l.length_right, (same_version_wrong ∙ l.version_right, (ap₂ codes_wrong same_kind same_sense ∙ l.codes_right, (ap₂ ring_count_wrong same_kind same_count ∙ l.count_right, (its_fit, tt)))))
 
     -- it says the same, but for the order of the rings
-    pub its_sheet : sheet_of t ≡ with_rings (sheet_of s) (map ring bs)
+    pub its_sheet : sheet_of t ≡ with_rings (sheet_of s) (map (ring (version s)) bs)
     unfolding sheet_of
-    its_sheet = λ i. record { kind = same_kind i; sense = same_sense i; plane = same_plane i; rings = map ring (its_blocks i) }
+    its_sheet = λ i. record { kind = same_kind i; sense = same_sense i; plane = same_plane i; rings = map (ring (same_version i)) (its_blocks i) }
 
-    pub its_rings : Permᴰ (sheet_of s).rings (map ring bs)
+    pub its_rings : Permᴰ (sheet_of s).rings (map (ring (version s)) bs)
     unfolding sheet_of
-    its_rings = map_perm ring d
+    its_rings = map_perm (ring (version s)) d
 
 -- the rings are those of the blocks
-pub rings_are : (s : List ℕ) → (sheet_of s).rings ≡ map ring (blocks s)
+pub rings_are : (s : List ℕ) → (sheet_of s).rings ≡ map (ring (version s)) (blocks s)
 unfolding sheet_of
 rings_are s = refl
 
 -- no coordinate that is read is -0, and no deviation
 pub rings_clear : (s : List ℕ) → All (λ (r : List Coedge). All ClearPoint (ring_points r)) (sheet_of s).rings
 unfolding sheet_of
-rings_clear s = all_map (λ (r : List Coedge). All ClearPoint (ring_points r)) ring (blocks s) (all_of (λ (b : List ℕ). All ClearPoint (ring_points (ring b))) ring_clear (blocks s))
+rings_clear s = all_map (λ (r : List Coedge). All ClearPoint (ring_points r)) (ring (version s)) (blocks s) (all_of (λ (b : List ℕ). All ClearPoint (ring_points (ring (version s) b))) (ring_clear (version s)) (blocks s))
 
 pub deviations_clear : (s : List ℕ) → All (All ClearDeviation) (sheet_of s).rings
 unfolding sheet_of
-deviations_clear s = all_map (All ClearDeviation) ring (blocks s) (all_of (λ (b : List ℕ). All ClearDeviation (ring b)) ring_deviations (blocks s))
+deviations_clear s = all_map (All ClearDeviation) (ring (version s)) (blocks s) (all_of (λ (b : List ℕ). All ClearDeviation (ring (version s) b)) (ring_deviations (version s)) (blocks s))

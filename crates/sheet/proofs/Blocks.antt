@@ -2,7 +2,7 @@
 -- stands behind them. A ring has as many coedges as its block's first byte says.
 use mathlib.Core.Path.{◌≡◌, refl, sym, ap, ap₂, ◌∙◌}
 use mathlib.Core.Bool.{Bool, true, false, cond, ◌||◌}
-use mathlib.Core.List.{List, [], ◌∷◌, ◌++◌, map, flatten, append_assoc}
+use mathlib.Core.List.{List, [], ◌∷◌, ◌++◌, map, flatten, flat_map, append_assoc}
 use Prim.Native.Nat.{ℕ, zero, suc, ◌+◌, ◌*◌, ◌≤◌, ◌<◌}
 use native.Mathlib.Omega.{arith}
 use lib.Dec.{eqb, ltb}
@@ -10,7 +10,7 @@ use lib.ListN.{length, get_or, take, drop, take-append-drop, length-append, leng
 use lib.Seq.{drop-append-le}
 use borrow.Author.Tests.{ltb-false, eqb-false}
 use Rattle.leaves.proofs.Folds.{All}
-use Rattle.sheet.specs.Content.{Coedge}
+use Rattle.sheet.specs.Content.{Coedge, ring_points}
 use Rattle.sheet.specs.Layout.{version, kind, ring_count, head_size, cut, sampled, coedge_points, coedge_head, coedge_size, points, coedge, coedge_parts, ring, block_size, blocks}
 use Rattle.sheet.specs.Checks.{first_fault, coedge_fault, block_fault}
 use Rattle.sheet.proofs.Cuts.{cut_length, behind, cut_whole, CutOff, cut_back, faultless_cut, neither_fault, none_faulty}
@@ -60,9 +60,9 @@ coedge_cut v s e rest =
 -- ---- a block without a fault
 
 module _ (v : ℕ) (b : List ℕ) (e : block_fault v b ≡ 0) where
-  pub block_there : 1 ≤ length b
+  block_some : 1 ≤ length b
   unfolding block_fault
-  block_there = by (eqb (length b) 0) refl e
+  block_some = by (eqb (length b) 0) refl e
     where
       by : (a : Bool) → eqb (length b) 0 ≡ a → cond a 5 (first_fault (coedge_fault v) (coedge_parts v b)) ≡ 0 → 1 ≤ length b
       by true h e = absurd (omega (arith, e))
@@ -86,7 +86,7 @@ module _ (v : ℕ) (b : List ℕ) (e : block_fault v b ≡ 0) where
       let off : All (CutOff size) ps = faultless_cut size (coedge_fault v) (coedge_cut v) n (drop 1 b) coedges_faultless in
       let bytes : drop 1 b ++ rest ≡ flatten ps ++ (behind size n (drop 1 b) ++ rest) =
       ap (λ (l : List ℕ). l ++ rest) (sym (cut_whole size n (drop 1 b))) ∙ append_assoc (flatten ps) (behind size n (drop 1 b)) rest in
-      ap₂ (cut size) (get_or-append b rest 0 0 block_there ∙ sym (cut_length size n (drop 1 b))) (drop-append-le 1 b rest block_there ∙ bytes)
+      ap₂ (cut size) (get_or-append b rest 0 0 block_some ∙ sym (cut_length size n (drop 1 b))) (drop-append-le 1 b rest block_some ∙ bytes)
       ∙ cut_back size ps off (behind size n (drop 1 b) ++ rest)
 
   same_size : (rest : List ℕ) → block_size v (b ++ rest) ≡ block_size v b
@@ -101,16 +101,18 @@ block_within : (v : ℕ) (b : List ℕ) → 1 ≤ length b → block_size v b �
 unfolding block_size
 block_within v b h = omega (arith, parts_within v b, length-drop 1 b)
 
+pub block_most : (v : ℕ) (s : List ℕ) → block_size v s ≤ 1 + length s
+unfolding block_size
+block_most v s = omega (arith, parts_within v s, length-drop 1 s)
+
 block_cut : (v : ℕ) (s : List ℕ) → block_fault v (take (block_size v s) s) ≡ 0 → CutOff (block_size v) (take (block_size v s) s)
 block_cut v s e rest =
     let k = block_size v s in
     let b = take k s in
     let own : k ≡ block_size v b = ap (block_size v) (sym (take-append-drop k s)) ∙ same_size v b e (drop k s) in
-    same_size v b e rest ∙ omega (arith, own, block_within v b (block_there v b e), length-take k s)
+    same_size v b e rest ∙ omega (arith, own, block_within v b (block_some v b e), length-take k s)
 
--- b is one whole block, cut off whatever stands behind it, and without a fault
-abbrev pub Block : ℕ → List ℕ → Type 0
-Block v b = CutOff (block_size v) b × (block_fault v b ≡ 0)
+-- ---- the blocks of a sheet
 
 pub blocks_cut : (s : List ℕ) → All (λ (b : List ℕ). block_fault (version s) b ≡ 0) (blocks s) → All (CutOff (block_size (version s))) (blocks s)
 unfolding blocks
@@ -120,11 +122,19 @@ pub blocks_length : (s : List ℕ) → length (blocks s) ≡ ring_count s
 unfolding blocks
 blocks_length s = cut_length (block_size (version s)) (ring_count s) (drop (head_size (kind s)) s)
 
+pub blocks_whole : (s : List ℕ) → flatten (blocks s) ++ behind (block_size (version s)) (ring_count s) (drop (head_size (kind s)) s) ≡ drop (head_size (kind s)) s
+unfolding blocks
+blocks_whole s = cut_whole (block_size (version s)) (ring_count s) (drop (head_size (kind s)) s)
+
 -- ---- the ring in a block
 
+pub parts_count : (v : ℕ) (b : List ℕ) → length (ring v b) ≡ length (coedge_parts v b)
+unfolding ring
+parts_count v b = length-map (coedge_parts v b) (coedge v)
+
 pub ring_length : (v : ℕ) (b : List ℕ) → length (ring v b) ≡ get_or b 0 0
-unfolding ring coedge_parts
-ring_length v b = length-map (cut (coedge_size v) (get_or b 0 0) (drop 1 b)) (coedge v) ∙ cut_length (coedge_size v) (get_or b 0 0) (drop 1 b)
+unfolding coedge_parts
+ring_length v b = parts_count v b ∙ cut_length (coedge_size v) (get_or b 0 0) (drop 1 b)
 
 points_length : (n : ℕ) (s : List ℕ) → length (points n s) ≡ n
 unfolding points
@@ -148,3 +158,7 @@ ring_sampled v b e = go (coedge_parts v b) (coedges_faultless v b e)
     go (p ∷ ps) h =
         let w = whole_coedge v p h.0 in
         ((omega (arith, coedge_length v p, w.least), omega (arith, coedge_length v p, w.most)), go ps h.1)
+
+pub points_next : {rs cs : List Coedge} {c : Coedge} → rs ≡ c ∷ cs → length (ring_points rs) ≡ length c.points + length (ring_points cs)
+unfolding ring_points flat_map
+points_next {cs = cs} {c = c} e = rw e (length-append c.points (ring_points cs))

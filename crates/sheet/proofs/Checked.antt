@@ -1,28 +1,30 @@
 -- What holds of a sheet on which none of the checks 1 to 7 fails.
-use mathlib.Core.Path.{◌≡◌, refl}
+use mathlib.Core.Path.{◌≡◌, refl, ◌∙◌}
 use mathlib.Core.Bool.{Bool, true, false, not, cond, ◌&&◌, ◌||◌, true≢false}
-use mathlib.Core.List.{List, [], ◌∷◌, ◌++◌, flat_map, map}
-use Prim.Native.Nat.{ℕ, ◌-◌, ◌≤◌, ◌<◌}
+use mathlib.Core.List.{List, [], ◌∷◌, ◌++◌, flat_map, map, foldl}
+use Prim.Native.Nat.{ℕ, ◌+◌, ◌*◌, ◌-◌, ◌≤◌, ◌<◌}
 use native.Mathlib.Omega.{arith}
 use lib.Dec.{eqb, ltb}
 use lib.Ieee.{of_bits, lt, le}
 use lib.Ieee.Positive.{num}
-use lib.ListN.{length, drop}
+use lib.ListN.{length, length-append, length-map}
 use borrow.Author.Tests.{ltb-false, eqb-true, eqb-false, not-false}
 use Rattle.std.proofs.lemmas.Bool.{or_parts}
 use Rattle.leaves.specs.Constants.{plus_zero, deviation_limit}
-use Rattle.leaves.proofs.Folds.{All, all_append}
+use Rattle.leaves.proofs.Folds.{All, all_append, sum_cons}
 use Rattle.leaves.proofs.Magnitudes.{Most}
 use Rattle.sheet.specs.Content.{Point, Coedge, Sheet, ring_points}
 use Rattle.answers.specs.Limits.{beyond}
 use Rattle.answers.specs.Lists.{any_of}
-use Rattle.sheet.specs.Layout.{length_field, version, kind, sense, ring_count, head_size, plane, blocks, ring, sheet_of}
+use Rattle.sheet.specs.Layout.{length_field, version, kind, sense, ring_count, head_size, plane, sampled, blocks, ring, sheet_of}
 use Rattle.answers.specs.Outcome.{Check, first}
 use Rattle.answers.proofs.AnyOf.{any_false}
 use Rattle.answers.proofs.Finite.{not_beyond_most}
 use Rattle.answers.proofs.FirstCheck.{Numbered, none_fails, append_none}
-use Rattle.answers.proofs.Permutations.{all_weaken}
-use Rattle.sheet.specs.Checks.{length_wrong, version_wrong, kind_wrong, count_wrong, fill, blocks_wrong, empty, coedge_total, coedges_wrong, coordinate_limit, point_wrong, coedge_wrong, ring_wrong, plane_wrong, numbers_wrong, layout_checks, content_checks}
+use Rattle.answers.proofs.Permutations.{all_weaken, all_map}
+use Rattle.sheet.proofs.Blocks.{Sampled, ring_sampled, blocks_length}
+use Rattle.sheet.proofs.Cuts.{neither_fault, none_faulty}
+use Rattle.sheet.specs.Checks.{length_wrong, version_wrong, codes_wrong, ring_count_wrong, first_fault, block_fault, bytes_over, layout_fault, blocks_wrong, empty, coedge_total, coedges_wrong, coordinate_limit, point_wrong, coedge_wrong, ring_wrong, plane_wrong, numbers_wrong, layout_checks, content_checks}
 
 -- ---- the table
 
@@ -44,15 +46,7 @@ content_numbered s = content_all (λ (n : ℕ). 0 < n) s (omega arith)
 pub sheet_numbered : (s : List ℕ) → Numbered (layout_checks s ++ content_checks (sheet_of s))
 sheet_numbered s = all_append (λ (c : Check). 0 < c.number) (layout_checks s) (content_checks (sheet_of s)) (layout_numbered s) (content_numbered (sheet_of s))
 
--- the rings that stand in the blocks: `(sheet_of s).rings`, computed
-abbrev pub rings_of : List ℕ → List (List Coedge)
-rings_of s = map ring (blocks s)
-
-pub rings_are : (s : List ℕ) → (sheet_of s).rings ≡ rings_of s
-unfolding sheet_of
-rings_are s = refl
-
-pub table : (s : List ℕ) → first (layout_checks s ++ content_checks (sheet_of s)) ≡ cond (length_wrong s) 1 (cond (version_wrong s) 2 (cond (kind_wrong s) 3 (cond (count_wrong s) 4 (cond (blocks_wrong s) 5 (cond (coedges_wrong (rings_of s)) 6 (cond (plane_wrong (plane s) || any_of ring_wrong (rings_of s)) 7 0))))))
+pub table : (s : List ℕ) → first (layout_checks s ++ content_checks (sheet_of s)) ≡ cond (length_wrong s) 1 (cond (version_wrong s) 2 (cond (codes_wrong (kind s) (sense s)) 3 (cond (ring_count_wrong (kind s) (ring_count s)) 4 (cond (blocks_wrong s) 5 (cond (coedges_wrong (sheet_of s).rings) 6 (cond (plane_wrong (plane s) || any_of ring_wrong (sheet_of s).rings) 7 0))))))
 unfolding first layout_checks content_checks sheet_of numbers_wrong
 table s = refl
 
@@ -61,8 +55,8 @@ table s = refl
 pub record Laid (s : List ℕ) : Type 0 where
   pub length_right : length_wrong s ≡ false
   pub version_right : version_wrong s ≡ false
-  pub kind_right : kind_wrong s ≡ false
-  pub count_right : count_wrong s ≡ false
+  pub codes_right : codes_wrong (kind s) (sense s) ≡ false
+  pub count_right : ring_count_wrong (kind s) (ring_count s) ≡ false
   pub blocks_right : blocks_wrong s ≡ false
   pub long : 8 ≤ length s
   pub length_is : length_field s ≡ length s - 4
@@ -72,7 +66,8 @@ pub record Laid (s : List ℕ) : Type 0 where
   pub rings_least : 1 ≤ ring_count s
   pub rings_most : ring_count s ≤ 16
   pub head_fits : head_size (kind s) ≤ length s
-  pub filled : fill (ring_count s) (drop (head_size (kind s)) s) ≡ true
+  pub faultless : All (λ (b : List ℕ). block_fault (version s) b ≡ 0) (blocks s)
+  pub none_over : bytes_over s ≡ false
 
 pub head_size_most : (k : ℕ) → head_size k ≤ 80
 unfolding head_size
@@ -92,55 +87,100 @@ version_right_lem : (s : List ℕ) → version_wrong s ≡ false → version s �
 unfolding version_wrong
 version_right_lem s e = eqb-true (version s) 1 (not-false (eqb (version s) 1) e)
 
-kind_right_lem : (s : List ℕ) → kind_wrong s ≡ false → (kind s ≤ 6) × (sense s ≤ 2)
-unfolding kind_wrong
-kind_right_lem s e =
+codes_right_lem : (s : List ℕ) → codes_wrong (kind s) (sense s) ≡ false → (kind s ≤ 6) × (sense s ≤ 2)
+unfolding codes_wrong
+codes_right_lem s e =
     let p = or_parts (ltb 6 (kind s)) (ltb 2 (sense s)) e in
     (ltb-false 6 (kind s) p.0, ltb-false 2 (sense s) p.1)
 
-count_right_lem : (s : List ℕ) → count_wrong s ≡ false → (1 ≤ ring_count s) × (ring_count s ≤ 16)
-unfolding count_wrong
+count_right_lem : (s : List ℕ) → ring_count_wrong (kind s) (ring_count s) ≡ false → (1 ≤ ring_count s) × (ring_count s ≤ 16)
+unfolding ring_count_wrong
 count_right_lem s e =
     let p = or_parts (eqb (ring_count s) 0) (ltb 16 (ring_count s)) e in
     let some = eqb-false (ring_count s) 0 p.0 in
     (omega arith, ltb-false 16 (ring_count s) p.1)
 
-pub blocks_right_lem : (s : List ℕ) → blocks_wrong s ≡ false → (head_size (kind s) ≤ length s) × (fill (ring_count s) (drop (head_size (kind s)) s) ≡ true)
-unfolding blocks_wrong
-blocks_right_lem s e =
-    let h = head_size (kind s) in
-    let f = fill (ring_count s) (drop h s) in
-    let p = or_parts (ltb (length s) h) (not f) e in
-    (ltb-false (length s) h p.0, not-false f p.1)
+blocks_right_lem : (s : List ℕ) → blocks_wrong s ≡ false → (head_size (kind s) ≤ length s) × All (λ (b : List ℕ). block_fault (version s) b ≡ 0) (blocks s) × (bytes_over s ≡ false)
+unfolding blocks_wrong layout_fault
+blocks_right_lem s e = by (ltb (length s) (head_size (kind s))) refl (bytes_over s) refl (eqb-true _ _ (not-false _ e))
+  where
+    faults : ℕ
+    faults = first_fault (block_fault (version s)) (blocks s)
+
+    by : (a : Bool) → ltb (length s) (head_size (kind s)) ≡ a → (b : Bool) → bytes_over s ≡ b → cond a 5 (cond (eqb faults 0) (cond b 5 0) faults) ≡ 0
+        → (head_size (kind s) ≤ length s) × All (λ (b : List ℕ). block_fault (version s) b ≡ 0) (blocks s) × (bytes_over s ≡ false)
+    by true h b i e = absurd (omega (arith, e))
+    by false h true i e = let none : 5 ≡ 0 = (neither_fault faults 5 e).1 in absurd (omega (arith, none))
+    by false h false i e = (ltb-false _ _ h, none_faulty (block_fault (version s)) (blocks s) (neither_fault faults 0 e).0, i)
 
 pub laid : (s : List ℕ) → first (layout_checks s) ≡ 0 → Laid s
 unfolding layout_checks
 laid s e =
     let p = none_fails (layout_checks s) (layout_numbered s) e in
     let lengths = length_right_lem s p.0 in
-    let kinds = kind_right_lem s p.1.1.0 in
+    let codes = codes_right_lem s p.1.1.0 in
     let counts = count_right_lem s p.1.1.1.0 in
     let fills = blocks_right_lem s p.1.1.1.1.0 in
     record {
       length_right = p.0;
       version_right = p.1.0;
-      kind_right = p.1.1.0;
+      codes_right = p.1.1.0;
       count_right = p.1.1.1.0;
       blocks_right = p.1.1.1.1.0;
       long = lengths.0;
       length_is = lengths.1;
       version_is = version_right_lem s p.1.0;
-      kind_most = kinds.0;
-      sense_most = kinds.1;
+      kind_most = codes.0;
+      sense_most = codes.1;
       rings_least = counts.0;
       rings_most = counts.1;
       head_fits = fills.0;
-      filled = fills.1;
+      faultless = fills.1;
+      none_over = fills.2;
     }
+
+-- ---- how many points there are: each coedge has two at least, and not too many
+
+abbrev pub points_of : List (List Coedge) → ℕ
+points_of rings = foldl (λ (n : ℕ) (r : List Coedge). n + length (ring_points r)) 0 rings
+
+rings_sampled : (s : List ℕ) → All (λ (b : List ℕ). block_fault (version s) b ≡ 0) (blocks s) → All (All Sampled) (sheet_of s).rings
+unfolding sheet_of
+rings_sampled s h = all_map (All Sampled) (ring (version s)) (blocks s) (all_weaken (λ (b : List ℕ). block_fault (version s) b ≡ 0) (λ (b : List ℕ). All Sampled (ring (version s) b)) (ring_sampled (version s)) (blocks s) h)
+
+ring_between : (r : List Coedge) → All Sampled r → (2 * length r ≤ length (ring_points r)) × (length (ring_points r) ≤ sampled * length r)
+unfolding ring_points flat_map
+ring_between [] h = (omega arith, omega arith)
+ring_between (c ∷ cs) h =
+    let all = length-append c.points (ring_points cs) in
+    let later = ring_between cs h.1 in
+    (omega (arith, all, later.0, h.0.0), omega (arith, all, later.1, h.0.1))
+
+points_between : (rings : List (List Coedge)) → All (All Sampled) rings → (2 * coedge_total rings ≤ points_of rings) × (points_of rings ≤ sampled * coedge_total rings)
+unfolding coedge_total
+points_between [] h = (omega arith, omega arith)
+points_between (r ∷ rs) h =
+    let coedges = sum_cons (λ (r : List Coedge). length r) r rs in
+    let points = sum_cons (λ (r : List Coedge). length (ring_points r)) r rs in
+    let own = ring_between r h.0 in
+    let later = points_between rs h.1 in
+    (omega (arith, coedges, points, own.0, later.0), omega (arith, coedges, points, own.1, later.1))
+
+-- rings with a coedge each have one
+some_coedge : (rings : List (List Coedge)) → 1 ≤ length rings → All (λ (r : List Coedge). 1 ≤ length r) rings → 1 ≤ coedge_total rings
+unfolding coedge_total
+some_coedge [] l h = absurd (omega arith)
+some_coedge (r ∷ rs) l h = omega (arith, sum_cons (λ (r : List Coedge). length r) r rs, h.0)
+
+-- as many rings as the sheet's ring count says
+pub ring_number : (s : List ℕ) → length (sheet_of s).rings ≡ ring_count s
+unfolding sheet_of
+ring_number s = length-map (blocks s) (ring (version s)) ∙ blocks_length s
 
 -- ---- a sheet that passes: the checks down to 7
 
 pub record Checked (s : List ℕ) : Type 0 where
+  pub reads : first (layout_checks s) ≡ 0
   pub layout : Laid s
   pub coedges_right : coedges_wrong (sheet_of s).rings ≡ false
   pub numbers_right : numbers_wrong (sheet_of s) ≡ false
@@ -148,6 +188,9 @@ pub record Checked (s : List ℕ) : Type 0 where
   pub coedges_most : coedge_total (sheet_of s).rings ≤ 128
   pub plane_right : plane_wrong (sheet_of s).plane ≡ false
   pub rings_right : All (λ (r : List Coedge). ring_wrong r ≡ false) (sheet_of s).rings
+  -- how many points the rings have together
+  pub points_least : 1 ≤ points_of (sheet_of s).rings
+  pub points_most : points_of (sheet_of s).rings ≤ 2176
 
 full : (rings : List (List Coedge)) → All (λ (r : List Coedge). empty r ≡ false) rings → All (λ (r : List Coedge). 1 ≤ length r) rings
 unfolding empty
@@ -176,14 +219,20 @@ checked s e =
     let p = none_fails ys (content_numbered (sheet_of s)) parts.1 in
     let counts = coedges_right_lem (sheet_of s).rings p.0 in
     let numbers = numbers_right_lem (sheet_of s) p.1.0 in
+    let layout = laid s parts.0 in
+    let between = points_between (sheet_of s).rings (rings_sampled s layout.faultless) in
+    let some = some_coedge (sheet_of s).rings (omega (arith, ring_number s, layout.rings_least)) counts.0 in
     record {
-      layout = laid s parts.0;
+      reads = parts.0;
+      layout = layout;
       coedges_right = p.0;
       numbers_right = p.1.0;
       rings_full = counts.0;
       coedges_most = counts.1;
       plane_right = numbers.0;
       rings_right = numbers.1;
+      points_least = omega (arith, between.0, some);
+      points_most = omega (arith, between.1, counts.1);
     }
 
 -- ---- the points of a ring that passes check 7

@@ -4,10 +4,10 @@
 use mathlib.Core.Path.{◌≡◌, refl, sym, ap, ap₂, ◌∙◌}
 use mathlib.Core.Bool.{cond}
 use mathlib.Core.List.{List, [], ◌∷◌, ◌++◌, flatten, append_assoc}
-use Prim.Native.Nat.{ℕ, zero, suc}
+use Prim.Native.Nat.{ℕ, zero, suc, ◌+◌}
 use native.Mathlib.Omega.{arith}
 use lib.Dec.{eqb}
-use lib.ListN.{length, take, drop, take-append-drop}
+use lib.ListN.{length, take, drop, length-append, take-append-drop}
 use lib.Seq.{take_at, drop_at}
 use borrow.Author.Tests.{eq-eqb, ne_eqb}
 use Rattle.leaves.proofs.Folds.{All}
@@ -75,6 +75,14 @@ module _ (fault : List ℕ → ℕ) where
 
   -- ---- one part at a time
 
+  pub fault_found : {qs ps : List (List ℕ)} {p : List ℕ} {n : ℕ} → qs ≡ p ∷ ps → fault p ≡ n → (n ≡ 0 → ⊥) → first_fault fault qs ≡ n
+  unfolding first_fault
+  fault_found {p = p} {n = n} e h some = rw (e, h, ne_eqb n 0 some)
+
   pub fault_next : {qs ps : List (List ℕ)} {p : List ℕ} → qs ≡ p ∷ ps → fault p ≡ 0 → first_fault fault qs ≡ first_fault fault ps
   unfolding first_fault
   fault_next {p = p} e h = rw (e, eq-eqb (fault p) 0 h)
+
+pub flatten_next : {qs ps : List (List ℕ)} {p : List ℕ} → qs ≡ p ∷ ps → length (flatten qs) ≡ length p + length (flatten ps)
+unfolding flatten
+flatten_next {ps = ps} {p = p} e = rw e (length-append p (flatten ps))

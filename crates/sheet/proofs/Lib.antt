@@ -13,7 +13,10 @@ pub mod Walks
 pub mod Planes
 -- the checks, and what holds of a sheet that passes them
 pub mod Checked
+-- version 1 is read as before
+pub mod Version1
 -- a sheet's ring blocks in another order
 pub mod BlockOrder
 -- how long a sheet can be
 pub mod Sizes
+-- how long a sheet can be

@@ -1,7 +1,7 @@
 -- What is read from bytes, whatever they are, is a value that the format holds and is not -0. A NaN may be read.
 use mathlib.Core.Path.{◌≡◌, refl, sym, ap, ◌∙◌, subst}
 use mathlib.Core.Bool.{Bool, true, false, not, cond}
-use mathlib.Core.List.{List, flat_map}
+use mathlib.Core.List.{List, [], ◌∷◌, map, flat_map}
 use Prim.Native.Nat.{ℕ, zero, suc, ◌+◌, ◌*◌, ◌/◌, ◌%◌, ◌^◌, ◌<◌}
 use native.Mathlib.Nat.{lt_irrefl, lt_of_lt_of_le, le-add_right, mul-pos, zero-mul}
 use native.Mathlib.Omega.{arith}
@@ -15,10 +15,11 @@ use lib.Ieee.Fits.{down_pos}
 use borrow.Author.Tests.{eqb-false}
 use Rattle.leaves.specs.Constants.{plus_zero}
 use Rattle.leaves.proofs.Choices.{Clear}
-use Rattle.leaves.proofs.Folds.{All, all_append}
+use Rattle.answers.proofs.Permutations.{all_map}
+use Rattle.leaves.proofs.Folds.{All, all_append, all_of}
 use Rattle.leaves.proofs.Order.{minus_zero}
 use Rattle.sheet.specs.Content.{Point, Coedge, ring_points}
-use Rattle.sheet.specs.Layout.{big, number_of, number, points, coedge, coedges, ring}
+use Rattle.sheet.specs.Layout.{big, number_of, number, points, coedge_points, coedge_head, coedge, coedge_parts, ring}
 
 -- ---- a pattern that is not 0 without its sign stands for no zero
 
@@ -81,25 +82,24 @@ unfolding points
 points_clear zero s = tt
 points_clear (suc n) s = ((number_clear s, number_clear (drop 8 s)), points_clear n (drop 16 s))
 
-coedges_clear : (n : ℕ) (s : List ℕ) → All ClearPoint (ring_points (coedges n s))
-unfolding coedges coedge ring_points flat_map
-coedges_clear zero s = tt
-coedges_clear (suc n) s = all_append ClearPoint (points 17 (drop 8 s)) (ring_points (coedges n (drop 280 s))) (points_clear 17 (drop 8 s)) (coedges_clear n (drop 280 s))
+parts_clear : (v : ℕ) (ps : List (List ℕ)) → All ClearPoint (ring_points (map (coedge v) ps))
+unfolding coedge ring_points flat_map
+parts_clear v [] = tt
+parts_clear v (p ∷ ps) = all_append ClearPoint (coedge v p).points (ring_points (map (coedge v) ps)) (points_clear (coedge_points v p) (drop (coedge_head v) p)) (parts_clear v ps)
 
-pub ring_clear : (b : List ℕ) → All ClearPoint (ring_points (ring b))
+pub ring_clear : (v : ℕ) (b : List ℕ) → All ClearPoint (ring_points (ring v b))
 unfolding ring
-ring_clear b = coedges_clear (get_or b 0 0) (drop 1 b)
+ring_clear v b = parts_clear v (coedge_parts v b)
 
 -- ---- the deviations
 
 abbrev pub ClearDeviation : Coedge → Type 0
 ClearDeviation c = Clear binary64 c.deviation
 
-coedges_deviations : (n : ℕ) (s : List ℕ) → All ClearDeviation (coedges n s)
-unfolding coedges coedge
-coedges_deviations zero s = tt
-coedges_deviations (suc n) s = (number_clear s, coedges_deviations n (drop 280 s))
+deviation_clear : (v : ℕ) (p : List ℕ) → ClearDeviation (coedge v p)
+unfolding coedge
+deviation_clear v p = number_clear p
 
-pub ring_deviations : (b : List ℕ) → All ClearDeviation (ring b)
+pub ring_deviations : (v : ℕ) (b : List ℕ) → All ClearDeviation (ring v b)
 unfolding ring
-ring_deviations b = coedges_deviations (get_or b 0 0) (drop 1 b)
+ring_deviations v b = all_map ClearDeviation (coedge v) (coedge_parts v b) (all_of (λ (p : List ℕ). ClearDeviation (coedge v p)) (deviation_clear v) (coedge_parts v b))

@@ -1,26 +1,26 @@
--- The checks of the ring blocks, a step at a time.
+-- The checks of a plane and of the rings, a step at a time.
 use mathlib.Core.Path.{◌≡◌, refl, sym, ap, ap₂, ◌∙◌}
-use mathlib.Core.Bool.{Bool, true, false, ◌&&◌, ◌||◌}
-use mathlib.Core.List.{List, [], ◌∷◌, map, foldl}
-use Prim.Native.Nat.{ℕ, suc, ◌+◌, ◌-◌, ◌≤◌, ◌<◌}
+use mathlib.Core.Bool.{Bool, true, false, not, cond, ◌||◌}
+use mathlib.Core.List.{List, [], ◌∷◌, ◌++◌, flatten, foldl}
+use Prim.Native.Nat.{ℕ, ◌+◌, ◌≤◌, ◌<◌}
 use native.Mathlib.Omega.{arith}
-use lib.Dec.{leb, ltb, eqb}
-use lib.ListN.{length, get_or, take, drop}
-use lib.Seq.{drop-drop}
+use lib.Dec.{ltb, eqb}
+use lib.ListN.{length, take, drop, length-append, length-take, length-drop}
+use lib.Seq.{drop-drop, length-take-le}
 use lib.Ieee.{Float}
-use borrow.Author.Tests.{eq-eqb, ne_eqb, le-leb, lt-leb}
+use borrow.Author.Tests.{eq-eqb, ne_eqb, lt-ltb, le-ltb}
 use Rattle.sheet.specs.Content.{Coedge}
 use Rattle.answers.specs.Lists.{any_of}
-use Rattle.sheet.specs.Layout.{kind, plane, numbers, ring, block_size}
-use Rattle.sheet.specs.Checks.{fill, empty, coordinate_limit, axis_limit, plane_wrong, coedges_wrong}
+use Rattle.sheet.specs.Layout.{version, kind, ring_count, head_size, head, plane, numbers, coedge_parts, block_size, blocks}
+use Rattle.sheet.proofs.Blocks.{blocks_whole}
+use Rattle.sheet.proofs.Cuts.{behind}
+use Rattle.std.specs.Prelude.{Option, Some, None}
+use Rattle.std.specs.Option.{is_some}
+use Rattle.sheet.specs.Faults.{number_of, fault_number}
+use Rattle.sheet.specs.declared.fault.Fault.{Fault}
+use Rattle.sheet.specs.declared.fault.Fault.TheVariants.{Blocks, PointCount}
+use Rattle.sheet.specs.Checks.{first_fault, coedge_fault, block_fault, bytes_over, layout_fault, blocks_wrong, empty, coordinate_limit, axis_limit, plane_wrong, coedges_wrong}
 use Rattle.answers.specs.Limits.{beyond}
-use Rattle.sheet.proofs.Blocks.{ring_length}
-
-one_less : (n k : ℕ) → k < n → n - k ≡ suc (n - (k + 1))
-one_less n k h = omega arith
-
-none_left : (n k : ℕ) → n ≤ k → n - k ≡ 0
-none_left n k h = omega arith
 
 -- ---- the plane: nine numbers, of which the first three are the origin
 
@@ -46,22 +46,6 @@ pub no_plane_lem : (s : List ℕ) → (kind s ≡ 0 → ⊥) → plane_wrong (pl
 unfolding plane plane_wrong
 no_plane_lem s e = rw (ne_eqb (kind s) 0 e)
 
--- ---- blocks, whose sizes differ
-
-fill_suc : (s : List ℕ) (n k : ℕ) → k < n → fill (n - k) s ≡ (leb (block_size s) (length s) && fill (n - (k + 1)) (drop (block_size s) s))
-unfolding fill
-fill_suc s n k h = ap (λ (m : ℕ). fill m s) (one_less n k h)
-
-pub fill_step : (s : List ℕ) (n k : ℕ) → k < n → block_size s ≤ length s → fill (n - k) s ≡ fill (n - (k + 1)) (drop (block_size s) s)
-fill_step s n k h room = fill_suc s n k h ∙ rw (le-leb (block_size s) (length s) room)
-
-pub fill_short : (s : List ℕ) (n k : ℕ) → k < n → length s < block_size s → fill (n - k) s ≡ false
-fill_short s n k h short = fill_suc s n k h ∙ rw (lt-leb (block_size s) (length s) short)
-
-pub fill_end : (s : List ℕ) (n k : ℕ) → n ≤ k → fill (n - k) s ≡ eqb (length s) 0
-unfolding fill
-fill_end s n k h = ap (λ (m : ℕ). fill m s) (none_left n k h)
-
 -- ---- the coedges of the rings, of which `total` were counted before
 
 abbrev pub wrong_from : ℕ → List (List Coedge) → Bool
@@ -81,9 +65,71 @@ unfolding empty
 wrong_more total [] rest e = absurd (e refl)
 wrong_more total (c ∷ cs) rest e = refl
 
-pub wrong_found : (total : ℕ) {bs : List (List ℕ)} {b : List ℕ} {rest : List (List ℕ)} → bs ≡ b ∷ rest → get_or b 0 0 ≡ 0 → wrong_from total (map ring bs) ≡ true
-wrong_found total {b = b} {rest = rest} e z = rw e (wrong_empty total (ring b) (map ring rest) (ring_length b ∙ z))
+pub wrong_found : (total : ℕ) {rs rest : List (List Coedge)} {r : List Coedge} → rs ≡ r ∷ rest → length r ≡ 0 → wrong_from total rs ≡ true
+wrong_found total {rest = rest} {r = r} e z = rw e (wrong_empty total r rest z)
 
-pub wrong_passed : (total : ℕ) {bs : List (List ℕ)} {b : List ℕ} {rest : List (List ℕ)} → bs ≡ b ∷ rest → (get_or b 0 0 ≡ 0 → ⊥) → wrong_from total (map ring bs) ≡ wrong_from (total + get_or b 0 0) (map ring rest)
-wrong_passed total {b = b} {rest = rest} e z =
-    rw (e, ← ring_length b) (wrong_more total (ring b) (map ring rest) (λ n. z (sym (ring_length b) ∙ n)))
+pub wrong_passed : (total : ℕ) {rs rest : List (List Coedge)} {r : List Coedge} → rs ≡ r ∷ rest → (length r ≡ 0 → ⊥) → wrong_from total rs ≡ wrong_from (total + length r) rest
+wrong_passed total {rest = rest} {r = r} e z = rw e (wrong_more total r rest z)
+
+-- ---- the walk of check 5
+
+pub some_number : (f : Fault) → number_of f ≡ 0 → ⊥
+unfolding number_of
+some_number Blocks e = omega (arith, e)
+some_number PointCount e = omega (arith, e)
+
+fault_seen : (fault : Option Fault) → is_some fault ≡ not (eqb (fault_number fault) 0)
+unfolding fault_number number_of
+fault_seen None = refl
+fault_seen (Some Blocks) = refl
+fault_seen (Some PointCount) = refl
+
+pub fault_told : (s : List ℕ) (fault : Option Fault) → fault_number fault ≡ layout_fault s → is_some fault ≡ blocks_wrong s
+unfolding blocks_wrong
+fault_told s fault e = fault_seen fault ∙ ap (λ (n : ℕ). not (eqb n 0)) e
+
+pub block_empty : (v : ℕ) (b : List ℕ) → length b ≡ 0 → block_fault v b ≡ 5
+unfolding block_fault
+block_empty v b e = rw (eq-eqb (length b) 0 e)
+
+pub block_there : (v : ℕ) (b : List ℕ) → (length b ≡ 0 → ⊥) → block_fault v b ≡ first_fault (coedge_fault v) (coedge_parts v b)
+unfolding block_fault
+block_there v b e = rw (ne_eqb (length b) 0 e)
+
+module _ (s : List ℕ) where
+  -- the first fault of the blocks
+  abbrev pub faults : ℕ
+  faults = first_fault (block_fault (version s)) (blocks s)
+
+  pub layout_short : length s < head_size (kind s) → layout_fault s ≡ 5
+  unfolding layout_fault
+  layout_short h = rw (lt-ltb (length s) (head_size (kind s)) h)
+
+  module _ (fits : head_size (kind s) ≤ length s) where
+    layout_blocks : layout_fault s ≡ cond (eqb faults 0) (cond (bytes_over s) 5 0) faults
+    unfolding layout_fault
+    layout_blocks = rw (le-ltb (length s) (head_size (kind s)) fits)
+
+    pub layout_found : {n : ℕ} → faults ≡ n → (n ≡ 0 → ⊥) → layout_fault s ≡ n
+    layout_found {n} e some = layout_blocks ∙ rw (e, ne_eqb n 0 some)
+
+    pub layout_over : faults ≡ 0 → length (head s) + length (flatten (blocks s)) < length s → layout_fault s ≡ 5
+    unfolding bytes_over
+    layout_over e h = layout_blocks ∙ rw (e, lt-ltb (length (head s ++ flatten (blocks s))) (length s) (omega (arith, h, length-append (head s) (flatten (blocks s)))))
+
+    pub layout_none : faults ≡ 0 → length s ≤ length (head s) + length (flatten (blocks s)) → layout_fault s ≡ 0
+    unfolding bytes_over
+    layout_none e h = layout_blocks ∙ rw (e, le-ltb (length (head s ++ flatten (blocks s))) (length s) (omega (arith, h, length-append (head s) (flatten (blocks s)))))
+
+    pub head_length : length (head s) ≡ head_size (kind s)
+    unfolding head
+    head_length = length-take-le (head_size (kind s)) s fits
+
+-- head and blocks are no more than the sheet
+pub filled_most : (s : List ℕ) → length (head s) + length (flatten (blocks s)) ≤ length s
+unfolding head
+filled_most s =
+    let h = head_size (kind s) in
+    let size = block_size (version s) in
+    let left = behind size (ring_count s) (drop h s) in
+    omega (arith, ap length (blocks_whole s), length-append (flatten (blocks s)) left, length-take h s, length-drop h s)

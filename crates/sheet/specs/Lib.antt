@@ -4,4 +4,5 @@ pub mod Senses
 pub mod Layout
 pub mod Checks
 pub mod Faults
+pub mod Writing
 pub mod Version1

@@ -45,7 +45,7 @@ fn ring_count_wrong(s: &[u8]) -> bool
 }
 
 // 5: plane or ring blocks that overrun the end or leave bytes over.
-#[tactic(auto, unfolding(crate::specs::Checks::blocks_wrong, crate::specs::Faults::number_of))]
+#[tactic(auto, using(crate::proofs::Walks::fault_told))]
 fn blocks_wrong(s: &[u8]) -> bool
     ensures { result ≡ blocks_wrong s.now }
 {

@@ -37,7 +37,12 @@ fn block_fault(version: u8, block: &[u8]) -> Option<Fault>
     if block.is_empty() {
         return Some(Fault::Blocks);
     }
-    coedge_parts(version, block).find_map(|part| coedge_fault(version, part))
+    for part in coedge_parts(version, block) {
+        if let Some(fault) = coedge_fault(version, part) {
+            return Some(fault);
+        }
+    }
+    None
 }
 
 // Of a sheet, behind its first eight bytes.

@@ -72,6 +72,7 @@ impl<'a> Coedge<'a> {
     }
 
     // How many points it has. A byte counts them, so they are few.
+    #[tactic(auto, using(crate::proofs::Blocks::coedge_length))]
     pub fn point_count(&self) -> usize
         ensures count { result ≡ length self.now.points }
         ensures most { result ≤ 255 }
@@ -80,6 +81,7 @@ impl<'a> Coedge<'a> {
     }
 
     // Its points.
+    #[tactic(auto, unfolding(crate::specs::Layout::coedge))]
     pub fn points(&self) -> CoedgePoints<'a>
         ensures { result ≡ self.now.points }
     {
@@ -142,9 +144,11 @@ impl<'a> Model for Ring<'a> {
 }
 
 impl<'a> Ring<'a> {
-    // Its coedges.
+    // Its coedges. A byte counts them.
+    #[tactic(auto, using(crate::proofs::Blocks::parts_count), unfolding(crate::specs::Layout::ring))]
     pub fn coedges(&self) -> Coedges<'a>
-        ensures { result ≡ self.now }
+        ensures coedges { result ≡ self.now }
+        ensures most { length self.now ≤ 255 }
     {
         Coedges {
             version: self.version,
@@ -153,6 +157,7 @@ impl<'a> Ring<'a> {
     }
 
     // How many they are. A byte counts them.
+    #[tactic(auto, using(crate::proofs::Blocks::ring_length))]
     pub(crate) fn coedge_count(&self) -> usize
         ensures count { result ≡ length self.now }
         ensures most { result ≤ 255 }
@@ -165,7 +170,11 @@ impl<'a> Ring<'a> {
         ensures count { result ≡ length (ring_points self.now) }
         ensures most { result ≤ 65025 }
     {
-        self.coedges().fold(0, |count, coedge| count + coedge.point_count())
+        let mut count = 0;
+        for coedge in self.coedges() {
+            count += coedge.point_count();
+        }
+        count
     }
 }
 
@@ -203,6 +212,7 @@ impl<'a> Iterator for Outline<'a> {
 }
 
 // The rings of a sheet.
+#[tactic(auto, unfolding(crate::specs::Layout::sheet_of))]
 pub fn rings(s: &[u8]) -> Outline<'_>
     ensures { result ≡ (sheet_of s.now).rings }
 {

@@ -2,7 +2,7 @@
 // iterators that give as many parts as the count before them says; what the bytes' end cuts off is cut short. They are
 // two, since each cuts by a size of its own: one over a trait that told it would be longer. What a part says is in
 // content.rt.
-ghost use Rattle.std.specs.Prelude.{◌≡◌, take, drop};
+ghost use Rattle.std.specs.Prelude.{◌≡◌, ◌≤◌, length, take, drop};
 ghost use Rattle.std.specs.Iterator.{YieldsFirstBy, item_count};
 ghost use Rattle.sheet.specs.Layout.{blocks, block_size, coedge_parts};
 
@@ -54,7 +54,8 @@ impl<'a> Iterator for CoedgeParts<'a> {
 
 // The coedges of a ring block.
 pub(crate) fn coedge_parts(version: u8, block: &[u8]) -> CoedgeParts<'_>
-    ensures { result ≡ coedge_parts version block.now }
+    ensures parts { result ≡ coedge_parts version block.now }
+    ensures most { length result ≤ 255 }
 {
     let (_head, rest) = parted(block, BLOCK_HEAD);
     CoedgeParts {

@@ -1,5 +1,4 @@
--- Laws about numbers as text, and about bytes laid into a page.
+-- Laws about numbers as text.
 pub mod Fronts
 pub mod Lines
-pub mod Pages
 pub mod Tens

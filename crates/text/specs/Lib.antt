@@ -1,4 +1,3 @@
 -- What the contracts of `text` cite.
 pub mod Digits
 pub mod Line
-pub mod Page

@@ -1,9 +1,9 @@
 // A u32 in decimal digits, with no zero in front; 0 is the one digit 0.
 ghost use Rattle.std.specs.Prelude.{◌≡◌};
-ghost use Rattle.text.specs.Page.{laid, behind};
+ghost use Rattle.buffer.specs.Page.{laid, behind};
 ghost use Rattle.text.specs.Digits.{decimal};
 
-use crate::page::put_bytes;
+use buffer::put_bytes;
 
 // Puts n's digits.
 #[tactic(auto, using(crate::proofs::Tens::decimal_is))]

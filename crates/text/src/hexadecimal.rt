@@ -2,11 +2,11 @@
 ghost use Rattle.std.specs.Prelude.{◌≡◌, ◌<◌};
 ghost use Rattle.std.specs.Float.{binary64};
 ghost use Rattle.std.specs.Float.Ieee.{to_bits};
-ghost use Rattle.text.specs.Page.{laid, behind};
+ghost use Rattle.buffer.specs.Page.{laid, behind};
 ghost use Rattle.text.specs.Digits.{hexadecimal, digits};
 ghost use Rattle.text.specs.Digits.{digit as digit_of};
 
-use crate::page::put_bytes;
+use buffer::put_bytes;
 use std::num::f64_to_bits_with_nan;
 
 // The ASCII code of a digit. (The kit's `{:X}` writes digits too, but promises nothing of them.)

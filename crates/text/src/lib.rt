@@ -6,9 +6,7 @@
 mod decimal;
 mod hexadecimal;
 mod line;
-mod page;
 
 pub use decimal::put_decimal;
 pub use hexadecimal::{bits_of, put_hex};
 pub use line::{point_line, put_point, refusal_line};
-pub use page::put_bytes;

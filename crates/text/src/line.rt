@@ -3,12 +3,12 @@
 // that it succeeds where there is room.)
 ghost use Rattle.std.specs.Prelude.{◌≡◌, ◌++◌, ◌+◌, ◌≤◌, length};
 ghost use Rattle.arrayvec.specs.ArrayVec.{array_vec_len};
-ghost use Rattle.text.specs.Page.{laid, behind};
+ghost use Rattle.buffer.specs.Page.{laid, behind};
 ghost use Rattle.text.specs.Digits.{decimal};
 ghost use Rattle.text.specs.Line.{number, point_text, point_line, refusal_line};
 
 use crate::hexadecimal::{bits_of, hex};
-use crate::page::put_bytes;
+use buffer::put_bytes;
 use answers::Values;
 use arrayvec::ArrayVec;
 

@@ -1,6 +1,6 @@
 // Bytes laid into a page.
 ghost use Rattle.std.specs.Prelude.{◌≡◌};
-ghost use Rattle.text.specs.Page.{laid, behind};
+ghost use Rattle.buffer.specs.Page.{laid, behind};
 
 // Puts the bytes in their order, the first of them at `at`. A place goes in and a place is answered, here and in the
 // other writers, so that a caller lays texts one behind the other in one page.

@@ -1,7 +1,7 @@
 -- Laws about bytes laid into a page: where the writer ends, and what the page then begins with.
 use Rattle.std.proofs.Common.{◌≡◌, ℕ, ◌≤◌, List, length, take, arith}
 use Rattle.std.proofs.lemmas.Grind.{common_steps}
-use Rattle.text.specs.Page.{laid, behind}
+use Rattle.buffer.specs.Page.{laid, behind}
 
 -- the place behind what was written lies within the page
 pub put_within : (at : ℕ) (bytes page : List ℕ) (r : ℕ) (after : List ℕ) → at ≤ length page → length after ≡ length page → r ≡ behind at bytes page → r ≤ length after

@@ -1,0 +1,2 @@
+-- Laws about bytes laid into a page.
+pub mod Pages
