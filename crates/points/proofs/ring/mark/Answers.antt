@@ -14,7 +14,7 @@ pub returns-then-marks-point_count : goal.returns-then-marks-point_count
 returns-then-marks-point_count c = sym (over_short _ c.args.marks.now (omega (arith, c.point_count.ensures.count, length_opens c.args.ring.now)))
 
 pub loop-coedge-init : goal.loop-coedge-init
-loop-coedge-init c = rw (c.into_iter-coedge-iterator.ensures.into_iter_gives, c.coedges-coedge-items.ensures) (none_written _ _)
+loop-coedge-init c = rw (c.into_iter-coedge-iterator.ensures.into_iter_gives, c.coedges-coedge-items.ensures.coedges) (none_written _ _)
 
 -- the next coedge's marks have room
 within : (c : goal.After-point_count-in-loop-coedge) → c.loop-coedge.from + c.point_count-in-loop-coedge.result ≤ length c.loop-coedge.marks
