@@ -1,5 +1,5 @@
--- Check 13 on rings whose points are marked, each ring's marks behind those of the rings before it: a ring at a time, and
--- with the marks that a sheet's rings have.
+-- Check 13 on rings whose points are marked, each ring's marks behind those of the rings before it: a ring at a time,
+-- and with the marks that a sheet's rings have.
 use mathlib.Core.List.{List, [], ◌∷◌, map, flat_map}
 use mathlib.Core.Path.{◌≡◌, refl, sym, ◌∙◌}
 use mathlib.Core.Bool.{Bool, true, false}

@@ -1,7 +1,8 @@
 -- Document 01, "Chart", rule 3: "Box: least and greatest u and v over all rings; scale = greatest − least. Torus band:
 -- kind 4 with a ring whose first and last u differ by over PI. Periodic: kinds 1, 2, or band. Check 11; then periodic
 -- caps the u scale at TAU; check 12", and rule 5's "Period P = TAU / u scale".
--- A Frame is the code's struct (src/framing.rt): the box's least u and v; the scales, that of u capped; the period P; periodic, whether the chart is; and band, whether it is a torus band.
+-- A Frame is the code's struct (src/framing.rt): the box's least u and v; the scales, that of u capped; the period P;
+-- periodic, whether the chart is; and band, whether it is a torus band.
 use Rattle.std.specs.Prelude.{Bool, cond, ◌&&◌, ◌||◌, ℕ, eqb, Float}
 use mathlib.Core.List.{List, map, flatten}
 use Rattle.std.specs.Float.{binary64}

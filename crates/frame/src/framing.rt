@@ -94,7 +94,7 @@ fn narrow(frame: Frame) -> bool
     frame.scale.u <= SCALE_LIMIT || frame.scale.v <= SCALE_LIMIT
 }
 
-// 13: a join above 1e-4. The rings' marks stand one behind the other too.
+// 13: a join above 1e-4. Each ring has the next part of the marks.
 fn joins_open(frame: Frame, marks: &[bool], rings: Rings) -> bool
     ensures { result ≡ open_marked frame marks.now (rings_in rings.entry) }
 {

@@ -23,7 +23,7 @@ fn is_fitting(s: &[u8], points: usize, ends: usize) -> bool
 // Lays the moved points of all rings, one ring behind the other, into `points`, and where each ring's end into
 // `ends`; lists of another size than the sheet's stay as they are, and are refused with 9. Then it answers the
 // sheet's frame, or the first of 11 to 13 that fails. (Four things that the call is lent: a caller goes on with each by
-// itself.)
+// itself. The marks are the call's own, since only check 13 asks for them.)
 pub fn lay_out(
     s: &[u8],
     phase: Phase,

@@ -1,5 +1,5 @@
--- `frame::framing::joins_open` meets its contract. The invariant: the rings that are left, with the marks that are left,
--- are open where all are.
+-- `frame::framing::joins_open` meets its contract. The invariant: the rings that are left, with the marks that are
+-- left, are open where all are.
 use Rattle.std.proofs.Common.{sym, ap, ◌∙◌, arith}
 use Rattle.std.proofs.lemmas.Grind.{common_steps}
 use Rattle.frame.specs.Stages.{open_marked}

@@ -1,5 +1,5 @@
--- `frame::prepare::prepare` writes what each ring gives behind what those before it gave. The invariant: the rings before
--- the next are written, and the lists have room for just those that are left.
+-- `frame::prepare::prepare` writes what each ring gives behind what those before it gave. The invariant: the rings
+-- before the next are written, and the lists have room for just those that are left.
 use Rattle.std.proofs.Common.{◌≡◌, ℕ, ap, ◌∙◌, arith, inl, length, map, rules}
 use mathlib.Core.List.{flatten}
 use Rattle.sheet.specs.Layout.{sheet_of}

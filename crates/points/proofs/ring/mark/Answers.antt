@@ -1,5 +1,5 @@
--- `points::ring::mark` writes the ring's marks over the front of the list. The invariant: they have room there, and those
--- of the coedges that came are written.
+-- `points::ring::mark` writes the ring's marks over the front of the list. The invariant: they have room there, and
+-- those of the coedges that came are written.
 use Rattle.std.proofs.Common.{◌≤◌, ◌+◌, length, sym, ap, ◌∙◌, arith, rules}
 use Rattle.answers.proofs.Over.{over_short}
 use Rattle.sheet.specs.Content.{Coedge}
