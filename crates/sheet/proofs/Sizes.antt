@@ -7,7 +7,7 @@ use native.Mathlib.Omega.{arith}
 use lib.ListN.{length, length-append}
 use Rattle.leaves.proofs.Folds.{All, sum_cons}
 use Rattle.sheet.specs.Content.{Coedge, ring_points}
-use Rattle.sheet.specs.Layout.{coedge_points, coedge, coedge_parts, block_size, blocks, ring, kind, head, sheet_of}
+use Rattle.sheet.specs.Layout.{sampled, coedge_points, coedge, coedge_parts, block_size, blocks, ring, kind, head, sheet_of}
 use Rattle.answers.specs.Outcome.{first}
 use Rattle.sheet.specs.Checks.{block_fault, layout_checks, content_checks, coedge_total}
 use Rattle.sheet.proofs.BlockOrder.{whole, head_length}
@@ -34,18 +34,18 @@ largest s e =
     let most : coedge_total (map (ring 1) (blocks s)) ≤ 128 = subst (λ (v : ℕ). coedge_total (map (ring v) (blocks s)) ≤ 128) l.version_is c.coedges_most in
     omega (arith, ap length (whole s c.reads), length-append (head s) (flatten (blocks s)), head_length s c.reads, lengths (blocks s) off faultless, blocks_length s, l.rings_most, most, head_size_most (kind s))
 
--- ---- 17 points a coedge
+-- ---- the points of a ring
 
-coedge_points_are : (p : List ℕ) → length (coedge 1 p).points ≡ 17
+coedge_points_are : (p : List ℕ) → length (coedge 1 p).points ≡ sampled
 unfolding coedge_points
 coedge_points_are p = coedge_length 1 p
 
-ring_points_are : (ps : List (List ℕ)) → length (ring_points (map (coedge 1) ps)) ≡ 17 * length ps
+ring_points_are : (ps : List (List ℕ)) → length (ring_points (map (coedge 1) ps)) ≡ sampled * length ps
 unfolding ring_points flat_map
 ring_points_are [] = refl
 ring_points_are (p ∷ ps) = simp length-append (omega (arith, coedge_points_are p, ring_points_are ps))
 
-pub ring_points_least : (s : List ℕ) → first (layout_checks s ++ content_checks (sheet_of s)) ≡ 0 → All (λ (r : List Coedge). 17 ≤ length (ring_points r)) (sheet_of s).rings
+pub ring_points_least : (s : List ℕ) → first (layout_checks s ++ content_checks (sheet_of s)) ≡ 0 → All (λ (r : List Coedge). sampled ≤ length (ring_points r)) (sheet_of s).rings
 unfolding sheet_of
 ring_points_least s e =
     let c = checked s e in
@@ -55,7 +55,7 @@ ring_points_least s e =
     Some r = 1 ≤ length r
 
     Least : List Coedge → Type 0
-    Least r = 17 ≤ length (ring_points r)
+    Least r = sampled ≤ length (ring_points r)
 
     least : (b : List ℕ) → Some (ring 1 b) → Least (ring 1 b)
     least b h = omega (arith, h, ring_points_are (coedge_parts 1 b), parts_count 1 b)
