@@ -6,7 +6,9 @@ pub mod Parting
 pub mod Counting
 -- rules 1 and 2 on every ring
 pub mod Preparing
--- a sheet's frame, and checks 11 to 13, by its blocks
+-- check 13 on marked rings
+pub mod Marking
+-- a sheet's frame, and checks 11 to 13, by its moved rings
 pub mod SheetFrame
 -- the scales are finite
 pub mod FiniteScales

@@ -1,6 +1,6 @@
 -- Rings that stand one behind the other in one list of points: parted at their ends they are those rings again, and a
 -- change of every point changes each ring.
-use mathlib.Core.List.{List, [], ◌∷◌, ◌++◌, map, flatten, append_assoc, map-append}
+use mathlib.Core.List.{List, [], ◌∷◌, ◌++◌, map, flat_map, flatten, append_assoc, map-append}
 use mathlib.Core.Path.{◌≡◌, refl, sym, ap, ap₂, ◌∙◌}
 use Prim.Native.Nat.{ℕ, ◌+◌, ◌-◌}
 use native.Mathlib.Omega.{arith}
@@ -9,6 +9,13 @@ use lib.Seq.{take_at, drop_at}
 use Rattle.sheet.specs.Content.{Point}
 use Rattle.frame.specs.Parts.{rings_from, rings_in, ends_from, Packed}
 use Rattle.frame.specs.declared.ring_list.Rings.{Rings}
+
+-- ---- parts one behind the other
+
+pub flat_is : {A B : Type 0} (part : B → List A) (bs : List B) → flat_map part bs ≡ flatten (map part bs)
+unfolding flat_map flatten
+flat_is part [] = refl
+flat_is {A = A} part (b ∷ bs) = ap (λ (xs : List A). part b ++ xs) (flat_is part bs)
 
 -- ---- parted at their ends
 

@@ -1,78 +1,96 @@
--- Rules 1 and 2 on every ring: a ring's part of the list has room for just its points, and what is read and moved there
--- is the moved ring; the rings follow one another, each behind the one before it.
-use mathlib.Core.List.{List, [], ◌∷◌, ◌++◌, map, flatten}
-use mathlib.Core.Path.{◌≡◌, ap, ◌∙◌}
-use Prim.Native.Nat.{ℕ, ◌+◌, ◌*◌, ◌-◌, ◌≤◌, ◌<◌}
+-- The record of a sheet's rings: what each gives of points, marks and ends is written behind what those before it gave.
+use mathlib.Core.List.{List, [], ◌∷◌, ◌++◌, map, flat_map, flatten}
+use mathlib.Core.Path.{◌≡◌, refl, sym, ap, ◌∙◌}
+use mathlib.Core.Bool.{Bool}
+use Prim.Native.Nat.{ℕ, suc, ◌+◌, ◌-◌, ◌≤◌, ◌<◌}
 use native.Mathlib.Omega.{arith}
-use lib.ListN.{length, get_or, take, drop, set}
+use lib.ListN.{length, take, drop, set, length-map}
 use Rattle.answers.specs.Lists.{over}
 use Rattle.answers.proofs.Over.{over_all}
-use Rattle.sheet.specs.Content.{Point, ring_points}
-use Rattle.sheet.specs.Layout.{ring}
-use Rattle.sheet.proofs.Blocks.{ring_points_length}
+use Rattle.sheet.specs.Content.{Point, Coedge, ring_points}
+use Rattle.sheet.proofs.Checked.{points_of}
+use Rattle.points.specs.Joins.{opens}
 use Rattle.points.specs.Unroll.{moved_ring}
-use Rattle.points.proofs.InPlace.{Written, none_written, part_written, item_written, all_filled}
+use Rattle.points.proofs.InPlace.{Written, none_written, written_length, item_written, all_filled}
+use Rattle.points.proofs.InParts.{next_within, next_written, parts_filled}
+use Rattle.points.proofs.Marks.{length_opens}
 use Rattle.frame.specs.Parts.{ends_from}
-use Rattle.frame.specs.Stages.{moved_block}
-use Rattle.frame.proofs.Counting.{points_in, points_cons, moved_length}
+use Rattle.frame.proofs.Counting.{own_points, parts_length, moved_of, moved_length}
+use Rattle.frame.proofs.Parting.{flat_is}
 
 -- ---- one ring
 
-pub ring_moved : (kind phase : ℕ) (block : List ℕ) (before read after : List Point) → length before ≡ 17 * get_or block 0 0 → read ≡ over (ring_points (ring block)) before → after ≡ moved_ring kind phase read
-    → after ≡ moved_block kind phase block
-unfolding moved_block
-ring_moved kind phase block before read after h r m =
-    let ps = ring_points (ring block) in
-    m ∙ ap (moved_ring kind phase) (r ∙ over_all ps before (omega (arith, h, ring_points_length block)))
+pub ring_moved : (kind phase : ℕ) (ring : List Coedge) (before : List Point) {read after : List Point} → length before ≡ own_points ring → read ≡ over (ring_points ring) before → after ≡ moved_ring kind phase read → after ≡ moved_of kind phase ring
+ring_moved kind phase ring before h r m = m ∙ ap (moved_ring kind phase) (r ∙ over_all (ring_points ring) before h)
 
 -- ---- all rings
 
--- the rings of the blocks `left` are still to be moved; those before them are, `count` of them, and end at `from`
-pub record Prepared (kind phase : ℕ) (points_before : List Point) (ends_before : List ℕ) (whole : List (List Point)) (points : List Point) (ends : List ℕ) (from count : ℕ) (left : List (List ℕ)) : Type 0 where
-  pub points_written : Written points_before points from (flatten (map (moved_block kind phase) left)) (flatten whole)
-  pub ends_written : Written ends_before ends count (ends_from from (map (moved_block kind phase) left)) (ends_from 0 whole)
-  pub points_room : from + points_in left ≡ length points_before
-  pub ends_room : count + length left ≡ length ends_before
+length_ends : (from : ℕ) (rings : List (List Point)) → length (ends_from from rings) ≡ length rings
+unfolding ends_from
+length_ends from [] = refl
+length_ends from (ring ∷ rings) = ap suc (length_ends (from + length ring) rings)
 
-pub none_prepared : (kind phase : ℕ) (points : List Point) (ends : List ℕ) (left : List (List ℕ)) → points_in left ≡ length points → length left ≡ length ends → Prepared kind phase points ends (map (moved_block kind phase) left) points ends 0 0 left
-none_prepared kind phase points ends left p e =
-    record {
-      points_written = none_written points (flatten (map (moved_block kind phase) left));
-      ends_written = none_written ends (ends_from 0 (map (moved_block kind phase) left));
-      points_room = omega arith;
-      ends_room = omega arith;
+-- of the rings `whole` those of `left` are still to come; the `count` before them are written, and end at `from`
+pub record Prepared (kind phase : ℕ) (points_before : List Point) (marks_before : List Bool) (ends_before : List ℕ) (whole : List (List Coedge)) (points : List Point) (marks : List Bool) (ends : List ℕ) (from count : ℕ) (left : List (List Coedge)) : Type 0 where
+  pub points_written : Written points_before points from (flat_map (moved_of kind phase) left) (flat_map (moved_of kind phase) whole)
+  pub marks_written : Written marks_before marks from (flat_map opens left) (flat_map opens whole)
+  pub ends_written : Written ends_before ends count (ends_from from (map (moved_of kind phase) left)) (ends_from 0 (map (moved_of kind phase) whole))
+  pub points_room : length (flat_map (moved_of kind phase) whole) ≡ length points_before
+  pub marks_room : length (flat_map opens whole) ≡ length marks_before
+  pub ends_room : length (ends_from 0 (map (moved_of kind phase) whole)) ≡ length ends_before
+
+pub none_prepared : (kind phase : ℕ) {points : List Point} {marks : List Bool} {ends : List ℕ} (rings : List (List Coedge)) → length points ≡ points_of rings → length marks ≡ points_of rings → length ends ≡ length rings
+    → Prepared kind phase points marks ends rings points marks ends 0 0 rings
+none_prepared kind phase rings p m e = record {
+  points_written = none_written _ _;
+  marks_written = none_written _ _;
+  ends_written = none_written _ _;
+  points_room = parts_length (moved_of kind phase) (moved_length kind phase) rings ∙ sym p;
+  marks_room = parts_length opens length_opens rings ∙ sym m;
+  ends_room = length_ends 0 (map (moved_of kind phase) rings) ∙ length-map rings (moved_of kind phase) ∙ sym e;
+}
+
+module _ {kind phase : ℕ} {points_before : List Point} {marks_before : List Bool} {ends_before : List ℕ} {whole : List (List Coedge)} {points : List Point} {marks : List Bool} {ends : List ℕ} {from count : ℕ} {left : List (List Coedge)} (p : Prepared kind phase points_before marks_before ends_before whole points marks ends from count left) where
+  module _ {ring : List Coedge} {rest : List (List Coedge)} (next : left ≡ ring ∷ rest) (n : ℕ) (own : n ≡ own_points ring) where
+    moved_own : n ≡ length (moved_of kind phase ring)
+    moved_own = own ∙ sym (moved_length kind phase ring)
+
+    marks_own : n ≡ length (opens ring)
+    marks_own = own ∙ sym (length_opens ring)
+
+    ends_next : ends_from from (map (moved_of kind phase) left) ≡ (from + n) ∷ ends_from (from + n) (map (moved_of kind phase) rest)
+    unfolding ends_from
+    ends_next = rw (next, moved_own)
+
+    -- the next ring has room in the lists of points and of marks, and so has its end
+    pub within : (from + n ≤ length points) × (from + n ≤ length marks) × (count < length ends)
+    within = (
+      next_within (moved_of kind phase) p.points_written next n moved_own (omega (arith, p.points_room)),
+      next_within opens p.marks_written next n marks_own (omega (arith, p.marks_room)),
+      omega (arith, written_length p.ends_written, ap length ends_next, p.ends_room, p.ends_written.same),
+    )
+
+    -- it is written
+    pub ring_prepared : (marks_part : List Bool) {own_points : List Point} {own_marks : List Bool} → own_points ≡ moved_of kind phase ring → own_marks ≡ over (opens ring) marks_part → length marks_part ≡ n
+        → Prepared kind phase points_before marks_before ends_before whole (take from points ++ (own_points ++ drop (from + n - from) (drop from points))) (take from marks ++ (own_marks ++ drop (from + n - from) (drop from marks))) (set ends count (from + n)) (from + n) (count + 1) rest
+    ring_prepared marks_part m o l = record {
+      points_written = next_written (moved_of kind phase) p.points_written next n moved_own (omega (arith, p.points_room)) m;
+      marks_written = next_written opens p.marks_written next n marks_own (omega (arith, p.marks_room)) (o ∙ over_all (opens ring) marks_part (l ∙ marks_own));
+      ends_written = item_written p.ends_written (from + n) _ ends_next (omega (arith, within, p.ends_written.same));
+      points_room = p.points_room;
+      marks_room = p.marks_room;
+      ends_room = p.ends_room;
     }
 
-module _ {kind phase : ℕ} {points_before : List Point} {ends_before : List ℕ} {whole : List (List Point)} {points : List Point} {ends : List ℕ} {from count : ℕ} {left : List (List ℕ)} (p : Prepared kind phase points_before ends_before whole points ends from count left) where
-  module _ {b : List ℕ} {rest : List (List ℕ)} (next : left ≡ b ∷ rest) where
-    -- the next ring has room, and so has its end
-    pub part_within : from + 17 * get_or b 0 0 ≤ length points
-    part_within = omega (arith, p.points_room, ap points_in next, points_cons b rest, p.points_written.same)
+  -- every ring is written
+  module _ (none : left ≡ []) where
+    no_ends : ends_from from (map (moved_of kind phase) left) ≡ []
+    unfolding ends_from
+    no_ends = rw none refl
 
-    pub end_within : count < length ends
-    end_within = omega (arith, p.ends_room, ap length next, p.ends_written.same)
-
-    -- it is moved in its part, and its end is noted
-    pub ring_prepared : (to : ℕ) {part : List Point} → to ≡ from + 17 * get_or b 0 0 → part ≡ moved_block kind phase b
-        → Prepared kind phase points_before ends_before whole (take from points ++ (part ++ drop (to - from) (drop from points))) (set ends count to) to (count + 1) rest
-    unfolding flatten ends_from
-    ring_prepared to told moved =
-        let ring = moved_block kind phase b in
-        let rings = map (moved_block kind phase) rest in
-        let end : to ≡ from + length ring = omega (arith, told, moved_length kind phase b) in
-        let size : to - from ≡ length ring = omega (arith, end) in
-        rw (moved, size, end)
-        (record {
-          points_written = part_written p.points_written ring (flatten rings) (ap (λ (bs : List (List ℕ)). flatten (map (moved_block kind phase) bs)) next) (omega (arith, part_within, p.points_written.same, moved_length kind phase b));
-          ends_written = item_written p.ends_written (from + length ring) (ends_from (from + length ring) rings) (ap (λ (bs : List (List ℕ)). ends_from from (map (moved_block kind phase) bs)) next) (omega (arith, end_within, p.ends_written.same));
-          points_room = omega (arith, p.points_room, ap points_in next, points_cons b rest, moved_length kind phase b);
-          ends_room = omega (arith, p.ends_room, ap length next);
-        })
-
-  -- every ring is moved
-  pub all_prepared : left ≡ [] → (points ≡ flatten whole) × (ends ≡ ends_from 0 whole)
-  unfolding flatten ends_from
-  all_prepared none = (
-    all_filled p.points_written (ap (λ (bs : List (List ℕ)). flatten (map (moved_block kind phase) bs)) none) (omega (arith, p.points_room, ap points_in none)),
-    all_filled p.ends_written (ap (λ (bs : List (List ℕ)). ends_from from (map (moved_block kind phase) bs)) none) (omega (arith, p.ends_room, ap length none)),
-  )
+    pub all_prepared : (points ≡ flatten (map (moved_of kind phase) whole)) × (marks ≡ flat_map opens whole) × (ends ≡ ends_from 0 (map (moved_of kind phase) whole))
+    all_prepared = (
+      parts_filled (moved_of kind phase) p.points_written none p.points_room ∙ flat_is (moved_of kind phase) whole,
+      parts_filled opens p.marks_written none p.marks_room,
+      all_filled p.ends_written no_ends (omega (arith, written_length p.ends_written, ap length no_ends, p.ends_room)),
+    )

@@ -20,7 +20,7 @@ phase_checks s phase = layout_checks s ++ content_checks (sheet_of s) ++ check 8
 
 -- ---- lists for the moved points and for the rings' ends
 
--- the points of the largest accepted sheet: 128 coedges of 17
+-- how many points an accepted sheet has at most
 abbrev pub most_points : ℕ
 most_points = 2176
 

@@ -27,11 +27,9 @@ pub fn check(s: &[u8], phase: Phase) -> Result<(), Refusal>
     Ok(())
 }
 
-// How many points the rings have.
+// How many points the rings have: at most 255 rings, of at most 65025 points each.
 pub fn point_count(s: &[u8]) -> usize
     ensures { result ≡ point_count (sheet_of s.now) }
 {
-    sheet::ring_blocks(s)
-        .map(|block| sheet::point_count(block))
-        .sum()
+    sheet::rings(s).map(|ring| ring.point_count()).sum()
 }

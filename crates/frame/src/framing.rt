@@ -4,7 +4,7 @@ ghost use Rattle.answers.specs.Outcome.{first, status_of};
 ghost use Rattle.frame.specs.Frame.{band_of, periodic_of, capped as capped_at, framed, band_wide, narrow as narrow_in};
 ghost use Rattle.frame.specs.Framing.{join_rows};
 ghost use Rattle.frame.specs.Parts.{rings_in};
-ghost use Rattle.frame.specs.Stages.{open_every};
+ghost use Rattle.frame.specs.Stages.{open_marked};
 
 use crate::ring_list::Rings;
 use answers::Refusal;
@@ -94,19 +94,25 @@ fn narrow(frame: Frame) -> bool
     frame.scale.u <= SCALE_LIMIT || frame.scale.v <= SCALE_LIMIT
 }
 
-// 13: a join above 1e-4.
-fn joins_open(frame: Frame, rings: Rings) -> bool
-    ensures { result ≡ open_every frame (rings_in rings.entry) }
+// 13: a join above 1e-4. The rings' marks stand one behind the other too.
+fn joins_open(frame: Frame, marks: &[bool], rings: Rings) -> bool
+    ensures { result ≡ open_marked frame marks.now (rings_in rings.entry) }
 {
-    rings.into_iter().any(|ring| {
-        points::is_open(frame.periodic, frame.scale, sheet::COEDGE_POINTS - 1, ring)
-    })
+    let mut left = marks;
+    for ring in rings {
+        let (own, behind) = left.split_at(ring.len().min(left.len()));
+        if points::is_open(frame.periodic, frame.scale, own, ring) {
+            return true;
+        }
+        left = behind;
+    }
+    false
 }
 
 // Checks 11 to 13 in a frame: the first that fails.
 #[tactic(auto, unfolding(crate::specs::Framing::join_rows, answers::specs::Outcome::first, answers::specs::Outcome::status_of, answers::specs::Outcome::number_of))]
-pub(crate) fn check_joins(frame: Frame, rings: Rings) -> Result<(), Refusal>
-    ensures { status_of result ≡ first (join_rows frame (open_every frame (rings_in rings.entry))) }
+pub(crate) fn check_joins(frame: Frame, marks: &[bool], rings: Rings) -> Result<(), Refusal>
+    ensures { status_of result ≡ first (join_rows frame (open_marked frame marks.now (rings_in rings.entry))) }
 {
     if band_wide(frame) {
         return Err(Refusal::WideBand);
@@ -114,7 +120,7 @@ pub(crate) fn check_joins(frame: Frame, rings: Rings) -> Result<(), Refusal>
     if narrow(frame) {
         return Err(Refusal::Narrow);
     }
-    if joins_open(frame, rings) {
+    if joins_open(frame, marks, rings) {
         return Err(Refusal::OpenJoin);
     }
     Ok(())

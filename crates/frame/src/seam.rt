@@ -13,7 +13,7 @@ use points::Phase;
 use sheet::Point;
 
 // Whether lists of so many points and so many ends are just those of the sheet.
-#[tactic(auto, using(crate::proofs::Counting::ring_number), unfolding(crate::specs::Seam::fitting))]
+#[tactic(auto, using(sheet::proofs::Checked::ring_number), unfolding(crate::specs::Seam::fitting))]
 fn is_fitting(s: &[u8], points: usize, ends: usize) -> bool
     ensures { result ≡ fitting (sheet_of s.now) points ends }
 {
@@ -35,9 +35,11 @@ pub fn lay_out(
     if !is_fitting(s, points.len(), ends.len()) {
         return Err(Refusal::Room);
     }
-    prepare(s, phase, points, ends);
+    let mut marks_room = [false; sheet::MOST_POINTS];
+    let marks = &mut marks_room[..points.len()];
+    prepare(s, phase, points, marks, ends);
     let rings = Rings { points, ends };
     let frame = frame_of(sheet::kind_of(s), rings);
-    check_joins(frame, rings)?;
+    check_joins(frame, marks, rings)?;
     Ok(frame)
 }

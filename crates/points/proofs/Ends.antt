@@ -1,5 +1,5 @@
 -- The last of a list's items, and whether a ring goes around, by its first and its last point.
-use mathlib.Core.Path.{◌≡◌, refl, sym}
+use mathlib.Core.Path.{◌≡◌, refl, sym, ◌∙◌}
 use mathlib.Core.Bool.{false}
 use mathlib.Core.List.{List, [], ◌∷◌}
 use Prim.Native.Nat.{suc, ◌-◌, ◌≤◌}
@@ -8,7 +8,7 @@ use lib.Ieee.{binary64, sub}
 use lib.ListN.{length, get_or}
 use Rattle.std.proofs.Common.{Some, None}
 use Rattle.std.specs.Option.{unwrap_or}
-use Rattle.std.proofs.lemmas.Option.{get_or_from_slice_get, none-some}
+use Rattle.std.proofs.lemmas.Option.{get_or_from_slice_get, none-some, unwrap_or-slice_get}
 use Rattle.std.specs.List.{slice_get, last_or}
 use Rattle.leaves.specs.Bounds.{exceeds_of}
 use Rattle.leaves.specs.Constants.{pi}
@@ -19,6 +19,14 @@ pub last_at : {A : Type 0} (p : A) (ps : List A) (d : A) → last_of p ps ≡ ge
 unfolding last_of
 last_at p [] d = refl
 last_at p (q ∷ ps) d = last_at q ps d
+
+-- of a list, or the item before them where there is none
+pub last_behind : {A : Type 0} (p : A) (ps : List A) → unwrap_or (slice_get ps (length ps - 1)) p ≡ last_of p ps
+unfolding last_of
+last_behind p [] = refl
+last_behind p (q ∷ ps) =
+    let n : suc (length ps) - 1 ≡ length ps = omega arith in
+    rw n (unwrap_or-slice_get (q ∷ ps) (length ps) p ∙ sym (last_at q ps p))
 
 pub around_none : (ring : List Point) → length ring ≤ 0 → goes_around ring ≡ false
 unfolding goes_around

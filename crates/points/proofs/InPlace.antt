@@ -24,6 +24,10 @@ module _ {A : Type 0} {before now : List A} {k : ℕ} {rest whole : List A} (w :
   behind : drop k now ≡ drop k before
   behind = ap (drop k) w.list ∙ drop_at w.done (drop k before) k w.count
 
+  -- as many items are left as the list of all has more
+  pub written_length : k + length rest ≡ length whole
+  written_length = omega (arith, w.count, simp length-append at (ap length w.all))
+
   -- what is not written yet is as it was
   pub unwritten : (d : A) → k < length before → drop k before ≡ get_or now k d ∷ drop (k + 1) before
   unwritten d h =

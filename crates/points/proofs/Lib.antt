@@ -1,12 +1,13 @@
 -- Laws about the definitions of `points`, by subject. What two functions' proofs need, and what the layers above cite,
 -- stands here.
 
--- points in a list of numbers, and a part of a list written anew
+-- points in a list of numbers, a list written from its front on, and a part of a list written anew
 pub mod Flat
 pub mod InPlace
+pub mod InParts
 pub mod Anew
--- a ring's points in its block
-pub mod BlockPoints
+-- which points are their coedge's first
+pub mod Marks
 -- a ring's points moved, and what holds of them
 pub mod Moved
 pub mod Reach
@@ -14,7 +15,6 @@ pub mod Reach
 pub mod Axes
 pub mod Ends
 pub mod Seams
-pub mod Opening
 -- a ring's segments, one after the other
 pub mod RingFolds
 -- whole turns, and the grid's columns, by the order

@@ -62,10 +62,3 @@ wide periodic scale_u scale_v j = lt join_limit (gap periodic scale_u scale_v j)
 unfoldable pub ring_open : Bool → Float → Float → List Bool → List Point → Bool
 unfolding wide joins
 ring_open periodic scale_u scale_v os ps = any_of (wide periodic scale_u scale_v) (joins os ps)
-
--- `opens` of a ring whose coedges have `more` points each after their first; `left` points follow before the next
--- coedge's first
-unfoldable pub every : ℕ → ℕ → List Point → List Bool
-every more left [] = []
-every more zero (p ∷ ps) = true ∷ every more more ps
-every more (suc left) (p ∷ ps) = false ∷ every more left ps

@@ -1,6 +1,6 @@
 // Rule 4 and check 13: whether a join of the ring is too wide.
 ghost use Rattle.std.specs.Prelude.{◌≡◌};
-ghost use Rattle.points.specs.Joins.{gap_u, join, wide, ring_open, every};
+ghost use Rattle.points.specs.Joins.{gap_u, join, wide, ring_open};
 
 use crate::turns::turns;
 use leaves::constants::{JOIN_LIMIT, TAU};
@@ -22,25 +22,18 @@ fn is_wide(periodic: bool, scale: Point, a: Point, b: Point) -> bool
     JOIN_LIMIT < leaves::hypot(gap_u(periodic, a.u - b.u) / scale.u, (a.v - b.v) / scale.v)
 }
 
-// Whether a join of the ring is above the limit. Every coedge has `more` points after its first.
-pub fn is_open(periodic: bool, scale: Point, more: usize, ring: &[Point]) -> bool
-    ensures { result ≡ ring_open periodic scale.u scale.v (every more 0 ring.now) ring.now }
+// Whether a join of the ring is above the limit. Of each point a mark says whether its coedge begins with it.
+pub fn is_open(periodic: bool, scale: Point, marks: &[bool], ring: &[Point]) -> bool
+    ensures { result ≡ ring_open periodic scale.u scale.v marks.now ring.now }
 {
+    let Some((_first_mark, marks_behind)) = marks.split_first() else {
+        return false;
+    };
     let Some((first, rest)) = ring.split_first() else {
         return false;
     };
-    let mut before = *first;
-    let mut left = more;
-    for p in rest {
-        if left == 0 {
-            if is_wide(periodic, scale, before, *p) {
-                return true;
-            }
-            left = more;
-        } else {
-            left -= 1;
-        }
-        before = *p;
-    }
-    is_wide(periodic, scale, *first, before)
+    let last = rest.last().copied().unwrap_or(*first);
+    let mut seams = ring.iter().zip(rest).zip(marks_behind);
+    is_wide(periodic, scale, *first, last)
+        || seams.any(|((before, p), opens)| *opens && is_wide(periodic, scale, *before, *p))
 }

@@ -1,4 +1,4 @@
-// The points of one ring: read from its block, moved (rules 1 and 2), measured (rules 3 and 4), normalised
+// The points of one ring: read from the sheet, moved (rules 1 and 2), measured (rules 3 and 4), normalised
 // (rule 5), joined by segments (rule 6), written for the host; and rule 6's grid.
 #![tactic(auto)]
 
@@ -17,7 +17,7 @@ pub use columns::{ColumnTest, column_ahead};
 pub use grid::part;
 pub use joins::is_open;
 pub use phase::Phase;
-pub use ring::{normalise, normalise_into, read, unroll};
+pub use ring::{mark, normalise, normalise_into, read, unroll};
 pub use segment::{Between, Segment, SegmentsLeft, segments};
 pub use turns::{is_number, keeps_order, turns as whole_turns};
 pub use written::{phase_angle, write};

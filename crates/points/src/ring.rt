@@ -1,38 +1,64 @@
-// A ring's points: read from the block, moved in place (rules 1 and 2), normalised in place or into another list
-// (rule 5).
+// A ring's points: read from the sheet, and those marked with which a coedge begins; moved in place (rules 1 and 2),
+// normalised in place or into another list (rule 5).
 ghost use Rattle.std.specs.Prelude.{◌≡◌, map, length};
 ghost use Rattle.sheet.specs.Content.{ring_points};
 ghost use Rattle.answers.specs.Lists.{over};
-ghost use Rattle.sheet.specs.Layout.{coedge, ring};
+ghost use Rattle.points.specs.Joins.{first_only, opens};
 ghost use Rattle.points.specs.Unroll.{near, wrapped, moved, moved_ring};
 ghost use Rattle.points.specs.Normalise.{normal};
 
 use crate::phase::Phase;
 use crate::turns::turns;
 use leaves::constants::TAU;
-use sheet::{Kind, Point};
+use sheet::{Coedge, Kind, Point, Ring};
 
 // The points of a coedge. (An index in a zip's place: of what is written through a zip, no clause of it speaks.)
-fn read_coedge(part: &[u8], points: &mut [Point])
-    requires { length points.old ≡ 17 }
-    ensures { points.new ≡ (coedge part.now).points }
+fn read_coedge(coedge: Coedge, points: &mut [Point])
+    requires { length points.old ≡ length coedge.points }
+    ensures { points.new ≡ coedge.entry.points }
 {
-    for (k, p) in sheet::points(part).enumerate() {
+    for (k, p) in coedge.points().enumerate() {
         points[k] = p;
     }
 }
 
-// The points of a ring's block over the front of `points`, whose tail keeps its contents; a list that
-// is too short for them stays as it is. (By index, as in `read_coedge`.)
-pub fn read(block: &[u8], points: &mut [Point])
-    ensures { points.new ≡ over (ring_points (ring block.now)) points.old }
+// The points of a ring over the front of `points`, whose tail keeps its contents; a list that is too short for them
+// stays as it is.
+pub fn read(ring: &Ring, points: &mut [Point])
+    ensures { points.new ≡ over (ring_points ring.now) points.old }
 {
-    if points.len() < sheet::point_count(block) {
+    if points.len() < ring.point_count() {
         return;
     }
-    for (k, part) in sheet::coedges(block).enumerate() {
-        let from = sheet::COEDGE_POINTS * k;
-        read_coedge(part, &mut points[from..from + sheet::COEDGE_POINTS]);
+    let mut from = 0;
+    for coedge in ring.coedges() {
+        let to = from + coedge.point_count();
+        read_coedge(coedge, &mut points[from..to]);
+        from = to;
+    }
+}
+
+// The first of a coedge's points is marked, and no other.
+fn mark_coedge(marks: &mut [bool])
+    ensures { marks.new ≡ first_only (length marks.old) }
+{
+    for (k, mark) in marks.iter_mut().enumerate() {
+        *mark = k == 0;
+    }
+}
+
+// For each point of a ring whether its coedge begins with it, over the front of `marks` as `read` writes the points.
+pub fn mark(ring: &Ring, marks: &mut [bool])
+    ensures { marks.new ≡ over (opens ring.now) marks.old }
+{
+    if marks.len() < ring.point_count() {
+        return;
+    }
+    let mut from = 0;
+    for coedge in ring.coedges() {
+        let to = from + coedge.point_count();
+        mark_coedge(&mut marks[from..to]);
+        from = to;
     }
 }
 

@@ -1,15 +1,19 @@
--- `frame::framing::joins_open` meets its contract: a join of a ring is tested by counting to its coedges' first points.
-use Rattle.std.proofs.Common.{rules, List}
-use Rattle.std.proofs.lemmas.Iterator.Consumers.{YieldsList-from_first}
-use Rattle.std.proofs.lemmas.Iterator.Search.{any_from_yields_List}
-use Rattle.sheet.specs.Content.{Point}
-use Rattle.points.specs.Joins.{ring_open, every}
-use Rattle.frame.specs.Framing.{any_open}
-use Rattle.frame.specs.Parts.{rings_left}
+-- `frame::framing::joins_open` meets its contract. The invariant: the rings that are left, with the marks that are left,
+-- are open where all are.
+use Rattle.std.proofs.Common.{sym, ap, ◌∙◌, arith}
+use Rattle.std.proofs.lemmas.Grind.{common_steps}
+use Rattle.frame.specs.Stages.{open_marked}
+use Rattle.frame.proofs.Marking.{open_found, open_passed, open_none}
 use Rattle.frame.proofs.framing.joins_open.Goals as goal
 
+pub loop-ring-init : goal.loop-ring-init
+loop-ring-init c = ap (open_marked c.args.frame c.args.marks.now) c.into_iter-ring-iterator.ensures.into_iter_gives
+
+pub returns-then-is_open : goal.returns-then-is_open
+returns-then-is_open c = sym (open_found _ c.loop-ring.left.now c.in-Some.ensures.steps (grind (arith, common_steps)) (sym c.is_open.ensures ∙ c.if-is_open.true)) ∙ c.loop-ring.invariant
+
+pub loop-ring-preserved : goal.loop-ring-preserved
+loop-ring-preserved c = sym (open_passed _ c.loop-ring.left.now c.in-Some.ensures.steps (grind (arith, common_steps)) (sym c.is_open.ensures ∙ c.if-is_open.false) (grind (arith, common_steps))) ∙ c.loop-ring.invariant
+
 pub returns : goal.returns
-unfolding any_open
-returns c =
-    let f = c.args.frame in
-    any_from_yields_List (λ (r : List Point). ring_open f.periodic f.scale.u f.scale.v (every 16 0 r) r) _ _ c.any.result c.any.ensures.ran (YieldsList-from_first (λ ring. ring.now) rings_left _ c.into_iter.ensures.into_iter_gives) (λ x b q k. search rules)
+returns c = sym (open_none _ c.loop-ring.left.now c.in-None.ensures.steps.0) ∙ c.loop-ring.invariant

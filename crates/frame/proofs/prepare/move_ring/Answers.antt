@@ -4,5 +4,4 @@ use Rattle.frame.proofs.Preparing.{ring_moved}
 use Rattle.frame.proofs.prepare.move_ring.Goals as goal
 
 pub returns : goal.returns
-returns c =
-    ring_moved c.args.kind c.args.phase c.args.block.now c.args.points.now _ _ c.requires c.read.ensures c.unroll.ensures
+returns c = ring_moved c.args.kind c.args.phase c.args.ring.now c.args.points.now c.requires c.read.ensures c.unroll.ensures

@@ -1,35 +1,39 @@
--- `points::ring::read` writes the ring's points over the front of the list. The invariant: those of the coedges that
--- came are written, 17 each.
-use Rattle.std.proofs.Common.{◌≡◌, suc, length, ap, rules, arith}
-use mathlib.Core.List.{flat_map}
-use Rattle.sheet.specs.Content.{ring_points}
-use Rattle.sheet.proofs.Blocks.{ring_length, ring_points_length}
-use Rattle.points.proofs.BlockPoints.{coedge_written, ring_unread}
-use Rattle.points.proofs.InPlace.{none_written, over_written}
+-- `points::ring::read` writes the ring's points over the front of the list. The invariant: they have room there, and
+-- those of the coedges that came are written.
+use Rattle.std.proofs.Common.{◌≤◌, ◌+◌, length, sym, arith, rules}
+use Rattle.answers.proofs.Over.{over_short}
+use Rattle.sheet.specs.Content.{Coedge, ring_points}
+use Rattle.points.proofs.InParts.{next_within, next_written, parts_over}
+use Rattle.points.proofs.InPlace.{none_written}
 use Rattle.points.proofs.ring.read.Goals as goal
 
 pub returns-then-points-point_count : goal.returns-then-points-point_count
-returns-then-points-point_count c = ring_unread c.args.block.now c.args.points.now (omega (arith, c.point_count.ensures.count))
+returns-then-points-point_count c = sym (over_short _ c.args.points.now (omega (arith, c.point_count.ensures.count)))
 
-pub loop-k-init-derived : goal.loop-k-init-derived
-loop-k-init-derived c = let l = ring_length c.args.block.now in search rules
+pub loop-coedge-init : goal.loop-coedge-init
+unfolding ring_points
+loop-coedge-init c =
+    rw (c.into_iter-coedge-iterator.ensures.into_iter_gives, c.coedges-coedge-items.ensures.coedges) (omega (arith, c.point_count.ensures.count), none_written _ _)
 
-pub loop-k-init : goal.loop-k-init
-loop-k-init c =
-    let items = c.enumerate-k-items.ensures in
-    rw (c.into_iter-k-iterator.ensures.into_iter_gives, items.source, items.count, c.coedges.ensures) (omega (arith, ring_length c.args.block.now), none_written _ _)
+-- the next coedge's points have room
+within : (c : goal.After-point_count-in-loop-coedge) → c.loop-coedge.from + c.point_count-in-loop-coedge.result ≤ length c.loop-coedge.points
+within c =
+    let i = c.loop-coedge.invariant in
+    next_within (λ (c : Coedge). c.points) i.1 c.in-Some.ensures.steps _ c.point_count-in-loop-coedge.ensures.count i.0
 
-pub loop-k-preserved : goal.loop-k-preserved
-loop-k-preserved c =
-    let i = c.loop-k.invariant in
-    let next = c.in-Some.ensures.steps in
-    let one : length c.loop-k.k-iterator.iter ≡ suc (length c.next.new.self.iter) = ap length next.0 in
-    (omega arith, rw (next.1, next.2) (coedge_written c.loop-k.k-iterator.count c.in-Some.part.now c.next.new.self.iter c.read_coedge.new.points i.1 next.0 c.read_coedge.ensures (omega arith)))
+pub overflow_add-to : goal.overflow_add-to
+overflow_add-to c = let room = within c in search rules
+
+pub offset_bounds-points-from : goal.offset_bounds-points-from
+offset_bounds-points-from c = let room = within c in search rules
+
+pub slice_bounds-read_coedge-end : goal.slice_bounds-read_coedge-end
+slice_bounds-read_coedge-end c = let room = within c in search rules
+
+pub loop-coedge-preserved : goal.loop-coedge-preserved
+loop-coedge-preserved c =
+    let i = c.loop-coedge.invariant in
+    (i.0, next_written (λ (c : Coedge). c.points) i.1 c.in-Some.ensures.steps _ c.point_count-in-loop-coedge.ensures.count i.0 c.read_coedge.ensures)
 
 pub returns : goal.returns
-unfolding ring_points flat_map
-returns c =
-    let i = c.loop-k.invariant in
-    let none = c.in-None.ensures.steps.0.0 in
-    let all : length c.loop-k.k-iterator.iter ≡ 0 = ap length none in
-    over_written i.1 (ap ring_points none) (omega (arith, c.point_count.ensures.count, ring_points_length c.args.block.now)) (omega arith)
+returns c = let i = c.loop-coedge.invariant in parts_over (λ (c : Coedge). c.points) i.1 c.in-None.ensures.steps.0 i.0

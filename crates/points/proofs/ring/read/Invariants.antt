@@ -1,12 +1,11 @@
-use mathlib.Core.Path.{◌≡◌}
-use Prim.Native.Nat.{◌+◌, ◌*◌}
-use lib.ListN.{length, get_or}
-use Rattle.sheet.specs.Content.{ring_points}
-use Rattle.sheet.specs.Layout.{ring}
+use mathlib.Core.List.{flat_map}
+use Prim.Native.Nat.{◌≤◌}
+use lib.ListN.{length}
+use Rattle.sheet.specs.Content.{Coedge, ring_points}
 use Rattle.points.proofs.InPlace.{Written}
 use Rattle.points.proofs.ring.read.Given as goal
 
-abbrev pub invariant-loop-k : goal.invariant-loop-k
-invariant-loop-k l =
-    (l.k-iterator.count + length l.k-iterator.iter ≡ get_or l.block 0 0)
-    × Written l.initial.points l.points (17 * l.k-iterator.count) (ring_points l.k-iterator.iter) (ring_points (ring l.block))
+abbrev pub invariant-loop-coedge : goal.invariant-loop-coedge
+invariant-loop-coedge l =
+    (length (ring_points l.ring) ≤ length l.initial.points)
+    × Written l.initial.points l.points l.from (flat_map (λ (c : Coedge). c.points) l.coedge-iterator) (ring_points l.ring)
