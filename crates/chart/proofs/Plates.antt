@@ -25,7 +25,8 @@ use Rattle.coverage.specs.Coverage.{winding_of}
 use Rattle.frame.specs.Framing.{joins_open, point_count, phase_wrong}
 use Rattle.chart.specs.Chart.{room_wrong, frame_checks, chart_checks}
 use Rattle.chart.specs.Demand.{down_to}
-use Rattle.chart.specs.Plates.{Plates, square, halfway, plate_a, raised, sheet_bytes}
+use Rattle.chart.specs.Plates.{Plates, square, halfway, plate_a, raised}
+use Rattle.sheet.specs.Writing.{sheet_bytes}
 use Rattle.chart.proofs.GridRule.{refused_above}
 
 -- ---- plate A

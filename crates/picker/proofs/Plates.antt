@@ -12,7 +12,8 @@ use Rattle.sheet.specs.Layout.{sheet_of, big}
 use Rattle.answers.specs.Outcome.{first}
 use Rattle.chart.specs.Chart.{frame_checks}
 use Rattle.chart.specs.Demand.{down_to}
-use Rattle.chart.specs.Plates.{plate_a, raised, sheet_bytes}
+use Rattle.chart.specs.Plates.{plate_a, raised}
+use Rattle.sheet.specs.Writing.{sheet_bytes}
 use Rattle.picker.specs.PlanePick.{plane_checks}
 use Rattle.picker.specs.Plates.{PlanePlates}
 use Rattle.picker.proofs.GridRule.{plane_refused_above}

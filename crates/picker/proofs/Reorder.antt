@@ -117,6 +117,7 @@ module _ (s : List ℕ) (reads : first (layout_checks s) ≡ 0) where
       images' = flatten (map images_of parts) ++ last
 
       blocks_perm : Permᴰ (blocks s) bs
+      unfolding imaged
       blocks_perm = subst (λ (l : List (List ℕ)). Permᴰ l bs) (blocks_back (version s) (blocks s) images) (map_perm block_of d)
 
       images_perm : Permᴰ images images'

@@ -2,7 +2,8 @@
 -- it of the chart. No contract cites it: the theorem in proofs/Plates.antt does.
 use Rattle.std.specs.Prelude.{◌≡◌}
 use Rattle.chart.specs.Demand.{Passes}
-use Rattle.chart.specs.Plates.{plate_a, raised, sheet_bytes}
+use Rattle.chart.specs.Plates.{plate_a, raised}
+use Rattle.sheet.specs.Writing.{sheet_bytes}
 use Rattle.picker.specs.PlanePick.{plane_checks, plane_pick_of}
 
 pub record PlanePlates : Type 0 where

@@ -1,14 +1,14 @@
 -- "the same ring blocks in another order, all else in the call the same": a sheet whose layout reads is its head and
 -- its blocks, one behind the other. With the blocks in another order its layout reads too,
 -- its blocks are those, and it says the same but for the rings' order.
-use mathlib.Core.Path.{◌≡◌, refl, sym, ap, ap₂, ◌∙◌, subst}
+use mathlib.Core.Path.{◌≡◌, refl, sym, ap, ap₂, ◌∙◌}
 use mathlib.Core.Bool.{Bool, true, false, not, cond, ◌||◌}
 use mathlib.Core.List.{List, [], ◌∷◌, ◌++◌, map, flatten, append-nil, Permᴰ}
 use Prim.Native.Nat.{ℕ, zero, suc, ◌+◌, ◌-◌, ◌*◌, ◌≤◌, ◌<◌}
 use native.Mathlib.Omega.{arith}
 use lib.Dec.{eqb, ltb}
 use lib.ListN.{length, get_or, take, drop, length-append, length-drop, get_or-append, take-append-drop}
-use lib.Seq.{length-take-le, take-append-le, drop-append-le, take_at, drop_at}
+use lib.Seq.{take-append-le, drop-append-le, take_at, drop_at}
 use borrow.Author.Tests.{le-ltb, ltb-false}
 use Rattle.std.proofs.lemmas.List.{nil_from_length}
 use lib.Ieee.{Float}

@@ -3,7 +3,7 @@
 use mathlib.Core.Path.{◌≡◌, refl, sym, ap, ap₂, ◌∙◌}
 use mathlib.Core.Bool.{Bool, true, false, cond, ◌||◌}
 use mathlib.Core.List.{List, [], ◌∷◌, ◌++◌, map, flatten, flat_map, append_assoc}
-use Prim.Native.Nat.{ℕ, zero, suc, ◌+◌, ◌*◌, ◌≤◌, ◌<◌}
+use Prim.Native.Nat.{ℕ, zero, suc, ◌+◌, ◌*◌, ◌≤◌}
 use native.Mathlib.Omega.{arith}
 use lib.Dec.{eqb, ltb}
 use lib.ListN.{length, get_or, take, drop, take-append-drop, length-append, length-drop, length-take, length-map, get_or-append}
@@ -13,7 +13,7 @@ use Rattle.leaves.proofs.Folds.{All}
 use Rattle.sheet.specs.Content.{Coedge, ring_points}
 use Rattle.sheet.specs.Layout.{version, kind, ring_count, head_size, cut, sampled, coedge_points, coedge_head, coedge_size, points, coedge, coedge_parts, ring, block_size, blocks}
 use Rattle.sheet.specs.Checks.{first_fault, coedge_fault, block_fault}
-use Rattle.sheet.proofs.Cuts.{cut_length, behind, cut_whole, CutOff, cut_back, faultless_cut, neither_fault, none_faulty}
+use Rattle.sheet.proofs.Cuts.{cut_length, behind, cut_whole, CutOff, cut_back, faultless_cut, none_faulty}
 
 -- ---- coedges
 

@@ -1,7 +1,7 @@
 -- What holds of a sheet on which none of the checks 1 to 7 fails.
 use mathlib.Core.Path.{◌≡◌, refl, ◌∙◌}
 use mathlib.Core.Bool.{Bool, true, false, not, cond, ◌&&◌, ◌||◌, true≢false}
-use mathlib.Core.List.{List, [], ◌∷◌, ◌++◌, flat_map, map, foldl}
+use mathlib.Core.List.{List, [], ◌∷◌, ◌++◌, flat_map, foldl}
 use Prim.Native.Nat.{ℕ, ◌+◌, ◌*◌, ◌-◌, ◌≤◌, ◌<◌}
 use native.Mathlib.Omega.{arith}
 use lib.Dec.{eqb, ltb}

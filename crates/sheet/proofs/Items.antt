@@ -1,18 +1,15 @@
 -- What the iterators over blocks, coedges and points have left: the first item, and what is left behind it.
-use mathlib.Core.Path.{◌≡◌, refl, sym, ap, ap₂, ◌∙◌}
-use mathlib.Core.Logic.{inl, inr}
+use mathlib.Core.Path.{◌≡◌, refl, sym, ap, ◌∙◌}
 use mathlib.Core.Bool.{Bool, ◌||◌}
-use mathlib.Core.List.{List, [], ◌∷◌, map, foldl}
+use mathlib.Core.List.{List, [], ◌∷◌, foldl}
 use Prim.Native.Nat.{ℕ, zero, suc, ◌+◌, ◌-◌, ◌*◌, ◌≤◌}
 use native.Mathlib.Omega.{arith}
 use lib.Ieee.{Float}
-use lib.ListN.{length, take, drop, length-take}
-use lib.Seq.{take-take, drop-drop}
+use lib.ListN.{take, drop}
+use lib.Seq.{drop-drop}
 use Rattle.std.specs.List.{list_any, range_with_len, fold}
-use Rattle.std.proofs.lemmas.Bool.{cases_lt}
-use Rattle.std.proofs.lemmas.List.{drop-take, take_all}
 use Rattle.answers.specs.Lists.{any_of}
-use Rattle.sheet.specs.Content.{Point, point}
+use Rattle.sheet.specs.Content.{point}
 use Rattle.sheet.specs.Layout.{number, numbers, points, cut}
 
 -- ---- what is left

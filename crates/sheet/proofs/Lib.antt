@@ -19,4 +19,5 @@ pub mod Version1
 pub mod BlockOrder
 -- how long a sheet can be
 pub mod Sizes
+
 -- how long a sheet can be

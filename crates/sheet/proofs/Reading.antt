@@ -7,7 +7,7 @@ use native.Mathlib.Nat.{lt_irrefl, lt_of_lt_of_le, le-add_right, mul-pos, zero-m
 use native.Mathlib.Omega.{arith}
 use lib.Dec.{T, eqb, ltb, leb}
 use lib.Pow.{pow_pos}
-use lib.ListN.{length, get_or, take, drop}
+use lib.ListN.{length, take, drop}
 use lib.Ieee.{Float, nan, inf, fin, binary64, prec, low, up, hid, ones, odd, of_fields, of_bits}
 use lib.Ieee.Bits.{of_bits-fits}
 use lib.Ieee.Digits.{Equals, odd_val}

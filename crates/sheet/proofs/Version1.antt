@@ -2,7 +2,7 @@
 -- 280 bytes and 17 points a coedge, and check 5 is that its blocks fill the sheet.
 use mathlib.Core.Path.{◌≡◌, refl, sym, ap, ap₂, ◌∙◌}
 use mathlib.Core.Logic.{inl, inr}
-use mathlib.Core.Bool.{Bool, true, false, not, cond, ◌&&◌, ◌||◌}
+use mathlib.Core.Bool.{Bool, true, false, not, cond}
 use mathlib.Core.List.{List, [], ◌∷◌, ◌++◌, map, flatten, append-nil}
 use Prim.Native.Nat.{ℕ, zero, suc, ◌+◌, ◌-◌, ◌*◌, ◌≤◌, ◌<◌}
 use native.Mathlib.Omega.{arith}
@@ -15,7 +15,7 @@ use Rattle.std.proofs.lemmas.Bool.{cases_lt}
 use Rattle.std.proofs.lemmas.List.{drop-take, take_all}
 use Rattle.answers.specs.Outcome.{Check, first}
 use Rattle.sheet.specs.Content.{Point, point, Coedge, Sheet}
-use Rattle.sheet.specs.Layout.{big, number_of, number, version, kind, sense, ring_count, head_size, head, plane, cut, points, coedge, coedge_points, coedge_head, coedge_size, coedge_parts, ring, block_size, blocks, sheet_of}
+use Rattle.sheet.specs.Layout.{big, number_of, number, version, kind, sense, ring_count, head_size, head, plane, cut, sampled, points, coedge, coedge_points, coedge_head, coedge_size, coedge_parts, ring, block_size, blocks, sheet_of}
 use Rattle.sheet.specs.Checks.{first_fault, coedge_fault, block_fault, bytes_over, layout_fault, version_wrong, blocks_wrong, layout_checks, content_checks}
 use Rattle.sheet.specs.Version1 as v1
 use Rattle.sheet.proofs.Bytes.{number_whole}
@@ -55,7 +55,7 @@ unfolding coedge coedge_head coedge_points v1.coedge
 coedge_is s =
     ap₂ (λ (d : Float) (ps : List Point). record { deviation = d; points = ps })
     (number_part 280 s (omega arith))
-    (ap (points 17) (part_behind 8 280 s (omega arith)) ∙ points_part 17 272 (drop 8 s) (omega arith))
+    (ap (points sampled) (part_behind 8 280 s (omega arith)) ∙ points_part sampled 272 (drop 8 s) (omega arith))
 
 coedges_are : (n : ℕ) (s : List ℕ) → map (coedge 1) (cut (coedge_size 1) n s) ≡ v1.coedges n s
 unfolding cut v1.coedges

@@ -3,7 +3,9 @@ ghost use Rattle.std.specs.Prelude.{◌≡◌};
 ghost use Rattle.sheet.specs.Checks.{coedge_fault, block_fault, layout_fault};
 ghost use Rattle.sheet.specs.Faults.{fault_number};
 
-use crate::fields::{COEDGE_POINTS, coedge_head, coedge_points, coedge_size, head_size, kind_of, version_of};
+use crate::fields::{
+    COEDGE_POINTS, coedge_head, coedge_points, coedge_size, head_size, kind_of, version_of,
+};
 use crate::parts::{coedge_parts, ring_blocks};
 
 // What is wrong with a layout. A count of points is wrong in version 2 only.

@@ -13,4 +13,4 @@ unfolding deviates
 returns c =
     let step : Float → Coedge → Float = λ d k. larger_of d k.deviation in
     fold_from_yields_List _ step _ c.fold.result c.fold.ensures.ran (YieldsList-from_first (λ coedge. coedge) (λ rest. rest) _ c.coedges.ensures.coedges) (λ a x b q k. search rules)
-    ∙ folded step c.args.most c.args.ring.now
+    ∙ folded step c.args.most c.args.ring

@@ -6,7 +6,7 @@ use Rattle.sheet.specs.Layout.{version, kind, head_size, blocks}
 use Rattle.sheet.specs.Checks.{first_fault, block_fault}
 use Rattle.sheet.specs.Faults.{fault_number, number_of}
 use Rattle.sheet.proofs.Cuts.{fault_found, fault_next, flatten_next}
-use Rattle.sheet.proofs.Walks.{some_number, layout_short, layout_found, layout_over, layout_none, head_length, faults, filled_most}
+use Rattle.sheet.proofs.Walks.{some_number, layout_short, layout_found, layout_over, layout_none, head_length, filled_most}
 use Rattle.sheet.proofs.fault.layout_fault.Goals as goal
 
 -- the head is there
