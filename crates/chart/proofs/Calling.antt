@@ -23,13 +23,12 @@ use Rattle.answers.proofs.Settled.{settled_none, settled_refused}
 use Rattle.sheet.specs.Checks.{layout_checks, content_checks}
 use Rattle.sheet.specs.Content.{Point, flat}
 use Rattle.sheet.specs.Layout.{ring_count, sheet_of}
-use Rattle.sheet.proofs.Checked.{checked, sheet_numbered}
+use Rattle.sheet.proofs.Checked.{checked, ring_number, sheet_numbered}
 use Rattle.points.specs.Written.{written, written_point}
 use Rattle.points.proofs.Flat.{length_flat}
 use Rattle.frame.specs.Framing.{moved_rings, frame, point_count, phase_wrong}
 use Rattle.frame.specs.Seam.{fitting, phase_checks}
 use Rattle.frame.specs.declared.framing.Frame.{Frame}
-use Rattle.frame.proofs.Counting.{ring_number}
 use Rattle.frame.proofs.LaidOut.{is_fitting}
 use Rattle.frame.proofs.SheetFrame.{points_most, moved_points}
 use Rattle.search.specs.declared.candidate.Candidate.{Candidate}

@@ -10,8 +10,6 @@ use Rattle.leaves.proofs.Folds.{sum_cons}
 use Rattle.sheet.specs.Content.{Point, Coedge, Sheet, ring_points}
 use Rattle.sheet.proofs.BlockOrder.{with_rings}
 use Rattle.sheet.proofs.Checked.{points_of}
--- as many rings as the sheet's ring count says
-pub use Rattle.sheet.proofs.Checked.{ring_number}
 use Rattle.points.specs.Unroll.{moved_ring}
 use Rattle.points.proofs.Moved.{length_moved}
 use Rattle.frame.specs.Framing.{point_count}

@@ -17,7 +17,7 @@ use Rattle.sheet.proofs.Planes.{sheet_sense}
 use Rattle.frame.specs.Framing.{moved_rings, frame}
 use Rattle.frame.specs.Parts.{ends_from, rings_from, rings_in}
 use Rattle.frame.specs.Seam.{fitting, laid_points, laid_ends}
-use Rattle.frame.proofs.Counting.{ring_number}
+use Rattle.sheet.proofs.Checked.{ring_number}
 use Rattle.frame.proofs.LaidOut.{fitting_is, laid_points_lem, laid_ends_lem, told_ready, told_refused, passed_fits}
 use Rattle.frame.proofs.Parting.{packed, rings_are}
 use Rattle.frame.proofs.PassedOn.{passed_on}
