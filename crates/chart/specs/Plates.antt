@@ -1,4 +1,5 @@
--- Document 01, "Plates to hold against it": the square, the ring at half height, and plate A as a sheet's content. No contract cites them: the theorem in proofs/Plates.antt does.
+-- Document 01, "Plates to hold against it": the square, the ring at half height, and plate A as a sheet's content. No
+-- contract cites them: the theorem in proofs/Plates.antt does.
 use Rattle.std.specs.Prelude.{◌≡◌, true, false, ℕ, ◌-◌, ◌^◌, ◌≤◌, pos, negsuc, length, Float}
 use mathlib.Core.List.{List, [], ◌∷◌, ◌++◌, map, reverse}
 use Rattle.std.specs.Float.{binary64}

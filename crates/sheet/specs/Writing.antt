@@ -1,5 +1,5 @@
--- Document 01, "Sheet", from the other side: the bytes of version 1 that say a sheet. No contract cites them: the chart's
--- and the picker's theorems on plate A do.
+-- Document 01, "Sheet", from the other side: the bytes of version 1 that say a sheet. No contract cites them: the
+-- chart's and the picker's theorems on plate A do.
 use Rattle.std.specs.Prelude.{ℕ, length}
 use mathlib.Core.List.{List, ◌∷◌, ◌++◌, flat_map}
 use Rattle.std.specs.Int.{to_be_bytes, w32}

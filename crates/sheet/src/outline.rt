@@ -1,5 +1,6 @@
-// A sheet's outline: its rings, their coedges and those's points, as the bytes say them. Whoever asks for a ring asks
-// here, and knows of no byte and no version. What the bytes' end cuts off reads as zeros.
+// A sheet's outline: its rings, their coedges and the points of these, as the bytes say them. Whoever asks for a ring
+// asks here, and knows of no byte and no version. What the bytes' end cuts off reads as zeros. (The iterators over
+// rings and over coedges are alike, but each is seen as another list: no type is generic over what it is seen as.)
 ghost use Rattle.std.specs.Prelude.{◌≡◌, ◌≤◌, length};
 ghost use Rattle.std.specs.Iterator.{YieldsFirst, item_count};
 ghost use Rattle.sheet.specs.Content.{ring_points};

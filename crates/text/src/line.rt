@@ -8,9 +8,9 @@ ghost use Rattle.text.specs.Digits.{decimal};
 ghost use Rattle.text.specs.Line.{number, point_text, point_line, refusal_line};
 
 use crate::hexadecimal::{bits_of, hex};
-use buffer::put_bytes;
 use answers::Values;
 use arrayvec::ArrayVec;
+use buffer::put_bytes;
 
 // The longest line: 1 + 4 x 17 + 1 bytes, a count of ten digits and a newline.
 const LONGEST: usize = 81;

@@ -1,5 +1,5 @@
--- `sheet::fault::layout_fault` tells the first fault of a sheet's layout. The invariant: that of the blocks that are left is
--- that of all, and with their bytes `filled` is all that head and blocks fill.
+-- `sheet::fault::layout_fault` tells the first fault of a sheet's layout. The invariant: that of the blocks that are
+-- left is that of all, and with their bytes `filled` is all that head and blocks fill.
 use Rattle.std.proofs.Common.{◌≡◌, ◌≤◌, ℕ, List, sym, ap, ◌∙◌, arith, length}
 use mathlib.Core.List.{flatten}
 use Rattle.sheet.specs.Layout.{version, kind, head_size, blocks}
