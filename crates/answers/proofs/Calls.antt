@@ -1,5 +1,5 @@
--- What a call's answer is, a check at a time: the numbers of the refusals that calls give by name, and the laws by which
--- the check finds that a call meets its definition.
+-- What a call's answer is, a check at a time: the numbers of the refusals that calls give by name, and the laws by
+-- which the check finds that a call meets its definition.
 use mathlib.Core.Path.{◌≡◌, refl}
 use Rattle.answers.specs.Outcome.{number_of}
 use Rattle.answers.specs.declared.refusal.Refusal.TheVariants.{Length, Phase, Images, TooClose, Argument, Sides, Gap, NoInterior, Corners, NoneServes, Heights, MiddleUnclear, NotFinite}

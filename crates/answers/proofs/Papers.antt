@@ -1,5 +1,5 @@
--- The paper's six numbers of an outcome tell whether it is an answer: their status is 0 just there, since no refusal has
--- that number.
+-- The paper's six numbers of an outcome tell whether it is an answer: their status is 0 just there, since no refusal
+-- has that number.
 use mathlib.Core.Path.{◌≡◌, refl, sym, ap}
 use mathlib.Core.Bool.{false}
 use Prim.Native.Nat.{ℕ}

@@ -11,7 +11,8 @@ use Rattle.sheet.specs.Content.{Point, point}
 use Rattle.points.specs.Segments.{gained, middle, Between, Segment, segment, segments}
 use Rattle.points.specs.Turns.{turns}
 
--- ---- "Periodic: b moves as in 7, then both by round((p.u − (a.u + b.u)/2)/P) × P"; a chart that is not periodic has no P
+-- ---- "Periodic: b moves as in 7, then both by round((p.u − (a.u + b.u)/2)/P) × P"; a chart that is not periodic has
+-- no P
 
 -- "b moves as in 7"
 unfoldable pub laid : Option Float → Segment → Segment

@@ -1,5 +1,5 @@
--- Each decimal constant has the bits of the nearest f64, which are those that the code's literal shows; so has infinity.
--- By computation.
+-- Each decimal constant has the bits of the nearest f64, which are those that the code's literal shows; so has
+-- infinity. By computation.
 use Rattle.std.proofs.Common.{◌≡◌, ◌^◌, false, T, refl}
 use lib.Ieee.{binary64, inf, of_bits, fits, lt}
 use lib.Ieee.Fits.{round-fits}

@@ -1,7 +1,7 @@
 -- The order of the values that a format holds, of either sign. `place` numbers them in order, from one infinity to the
--- other, with one number for both zeros. Two values that are neither a NaN nor -0, and neither of which is less than the other, are the same.
--- What equals 0, or lies between a zero and its opposite, is a zero. So of two equal values that are no zeros each is
--- the other.
+-- other, with one number for both zeros. Two values that are neither a NaN nor -0, and neither of which is less than
+-- the other, are the same. What equals 0, or lies between a zero and its opposite, is a zero. So of two equal values
+-- that are no zeros each is the other.
 use Rattle.std.proofs.Common.{◌≡◌, ℕ, zero, suc, ◌+◌, ◌-◌, ◌*◌, ◌^◌, ◌<◌, ◌≤◌, Bool, true, false, not, ◌||◌, T, eqb, ltb, ℤ, pos, sym, refl, ◌∙◌, subst, ap₂, inl, inr, zero-le, le_refl, le_of_lt, zero-lt-suc, add-mul, eq-zero-or-pos, le_antisymm, lt_of_mul-lt-mul_right, mul-lt-mul_of_pos_right, mul-pos, zero-mul, arith, eqb→eq, ltb→lt, lt→ltb, nltb→le, T_not, pow_pos}
 pub use Rattle.std.proofs.lemmas.Float.{lt_irrefl as float_lt_irrefl, le_refl as le_self, le_of_lt as lt→le, le_of_eq as eq→le, le_of_not-lt as not_lt→le, le_left, le_right, lt_trans, eq_flip as eq_sym}
 use Rattle.std.proofs.lemmas.Float.{lt_of_lt_of_le, lt_of_le_of_lt, le_trans, lt-or-eq}

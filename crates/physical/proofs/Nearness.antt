@@ -65,8 +65,8 @@ module _ {S : Type 0} (steps : S → Option Place → S → Type 0) {s t : S} wh
 abbrev pub IsAnswer : {S : Type 0} → Float → Place → (S → Option Place → S → Type 0) → S → Bool → Type 0
 IsAnswer limit p steps s near = (ring : List Place) → GivesPlaces steps s ring → near ≡ any_near limit p false ring
 
--- The answer for the ring that `start` has to give is told by its segments that are left: from the place a through those
--- that s has to give, and back to the first. `near`: whether one before was near.
+-- The answer for the ring that `start` has to give is told by its segments that are left: from the place a through
+-- those that s has to give, and back to the first. `near`: whether one before was near.
 pub record IsTold {S : Type 0} (limit : Float) (p : Place) (steps : S → Option Place → S → Type 0) (start : S) (first : Place) (near : Bool) (a : Place) (s : S) : Type 0 where
   pub by : (ring : List Place) → GivesPlaces steps start ring → (rest : List Place) × GivesPlaces steps s rest × (fold_rest (near_step limit p) first near a rest ≡ any_near limit p false ring)
 

@@ -1,5 +1,5 @@
--- The order of the angles: less, or −0 before +0. One way only; of numbers, that is values of the format that are no NaN,
--- it goes on from one to the next, and two of which neither precedes the other are the same.
+-- The order of the angles: less, or −0 before +0. One way only; of numbers, that is values of the format that are no
+-- NaN, it goes on from one to the next, and two of which neither precedes the other are the same.
 use mathlib.Core.Path.{◌≡◌, refl, sym, ◌∙◌, subst}
 use mathlib.Core.Bool.{Bool, true, false, not, cond, ◌&&◌, ◌||◌, true≢false}
 use lib.Dec.{T, T_not}

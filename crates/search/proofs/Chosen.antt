@@ -1,5 +1,5 @@
--- The choice, a column at a time: what is left of the search from the column i on, each column measured from the segments
--- that its points are measured from.
+-- The choice, a column at a time: what is left of the search from the column i on, each column measured from the
+-- segments that its points are measured from.
 use mathlib.Core.Path.{◌≡◌, sym, ap, ◌∙◌}
 use mathlib.Core.Bool.{Bool}
 use mathlib.Core.List.{List}

@@ -1,6 +1,6 @@
 -- The copies of all segments, renewed one after the other: one is stored in its place and the others stay as they were,
--- so each still serves up to the column noted in its place; and when all serve the column, they are the segments' copies
--- there.
+-- so each still serves up to the column noted in its place; and when all serve the column, they are the segments'
+-- copies there.
 use mathlib.Core.Path.{◌≡◌, sym, ◌∙◌}
 use mathlib.Core.List.{List, map}
 use Prim.Native.Nat.{ℕ, ◌+◌, ◌<◌, ◌≤◌}

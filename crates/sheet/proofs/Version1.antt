@@ -1,5 +1,5 @@
--- "Version 1 sheets are read as before": the layout over a version, on a sheet whose version byte is 1, is the layout of
--- 280 bytes and 17 points a coedge, and check 5 is that its blocks fill the sheet.
+-- "Version 1 sheets are read as before": the layout over a version, on a sheet whose version byte is 1, is the layout
+-- of 280 bytes and 17 points a coedge, and check 5 is that its blocks fill the sheet.
 use mathlib.Core.Path.{◌≡◌, refl, sym, ap, ap₂, ◌∙◌}
 use mathlib.Core.Logic.{inl, inr}
 use mathlib.Core.Bool.{Bool, true, false, not, cond}

@@ -1,5 +1,5 @@
--- Document 01, "Sheet", as it reads for version 1 alone, before document 02's versions: the layout with 280 bytes and 17
--- points a coedge, check 5, and the sheet. No contract cites them: the theorem in proofs/Version1.antt does.
+-- Document 01, "Sheet", as it reads for version 1 alone, before document 02's versions: the layout with 280 bytes and
+-- 17 points a coedge, check 5, and the sheet. No contract cites them: the theorem in proofs/Version1.antt does.
 use Rattle.std.specs.Prelude.{Bool, not, cond, ◌&&◌, ◌||◌, ◌≡◌, ℕ, zero, suc, ◌+◌, ◌*◌, eqb, leb, ltb, length, get_or, take, drop}
 use mathlib.Core.List.{List, [], ◌∷◌, ◌++◌, map}
 use Rattle.sheet.specs.Content.{Coedge, Sheet}
@@ -60,8 +60,8 @@ layout_checks s =
     ∷ check 5 (blocks_wrong s)
     ∷ []
 
--- on a sheet whose version byte is 1: the blocks, the content, the fault of the layout, which is never 27, and the first
--- of the checks 1 to 7 that fails
+-- on a sheet whose version byte is 1: the blocks, the content, the fault of the layout, which is never 27, and the
+-- first of the checks 1 to 7 that fails
 pub record AsBefore (s : List ℕ) : Type 0 where
   pub same_blocks : blocks_of s ≡ blocks s
   pub same_content : sheet_of_any s ≡ sheet_of s

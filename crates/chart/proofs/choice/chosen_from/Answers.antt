@@ -1,5 +1,5 @@
--- `chart::choice::chosen_from` chooses the candidate: the marks are those of all rings, the list has the segments of all
--- rings in its front, and the search from both is the definition's.
+-- `chart::choice::chosen_from` chooses the candidate: the marks are those of all rings, the list has the segments of
+-- all rings in its front, and the search from both is the definition's.
 use mathlib.Core.Path.{refl, ap, ◌∙◌}
 use native.Mathlib.Omega.{arith}
 use lib.Ieee.{Float}

@@ -1,5 +1,5 @@
--- `clearance::segment_list::lay` writes the ring's segments over the front of the list. The loop's invariant: those that
--- the iterator has given are written.
+-- `clearance::segment_list::lay` writes the ring's segments over the front of the list. The loop's invariant: those
+-- that the iterator has given are written.
 use Rattle.std.proofs.Common.{sym, ap, arith, map, length, inl}
 use Rattle.std.proofs.lemmas.List.{length-append, length-map}
 use Rattle.answers.proofs.Over.{over_short}

@@ -1,5 +1,6 @@
 -- `coverage::covering::flip_rings` flips each grid point once for each ring that it is inside of. The invariant, at
--- every grid point: the flips of the rings that are left, from the cell, give the whole answer. A turn flips one ring's.
+-- every grid point: the flips of the rings that are left, from the cell, give the whole answer. A turn flips one
+-- ring's.
 use mathlib.Core.Bool.{false}
 use lib.ListN.{get_or-replicate}
 use Rattle.inside.proofs.Cells.{flipped_cells}

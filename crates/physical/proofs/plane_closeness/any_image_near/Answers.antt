@@ -1,4 +1,5 @@
--- `physical::plane_closeness::any_image_near` is `any_near` of the images of the ring's points, which its iterator gives.
+-- `physical::plane_closeness::any_image_near` is `any_near` of the images of the ring's points, which its iterator
+-- gives.
 use Rattle.std.proofs.Common.{rules}
 use Rattle.std.proofs.lemmas.Iterator.{YieldsList-from_map, YieldsList-from_slice}
 use Rattle.std.proofs.lemmas.Iterator.Consumers.{YieldsList-at}

@@ -1,5 +1,5 @@
--- `round_fallback::cylinder::sort` is `sorted_of`: by the key, which is the number and one over it, no other list of the
--- same numbers is in order.
+-- `round_fallback::cylinder::sort` is `sorted_of`: by the key, which is the number and one over it, no other list of
+-- the same numbers is in order.
 use Rattle.std.proofs.Common.{rules, arith}
 use lib.Ieee.{nan, binary64, div}
 use Rattle.std.proofs.lemmas.Fn.{always_returns_same}

@@ -1,6 +1,6 @@
 -- `search::leader::search_periodic` is the choice from the segments' copies. The loop's invariant: the grid from i on,
--- from the best so far, gives the whole answer; at most 31 grid points are counted for each i passed; and the copies are
--- ready for column i. A turn renews the copies and takes one column.
+-- from the best so far, gives the whole answer; at most 31 grid points are counted for each i passed; and the copies
+-- are ready for column i. A turn renews the copies and takes one column.
 use Rattle.std.proofs.Common.{Some, sym, ap, ◌∙◌, arith}
 use Rattle.clearance.specs.SegmentLists.{copies_at}
 use Rattle.search.specs.declared.candidate.Candidate.{Candidate}

@@ -1,5 +1,5 @@
--- `sheet::fault::block_fault` tells the first fault of a block. The invariant: that of the coedges that are left is that
--- of all.
+-- `sheet::fault::block_fault` tells the first fault of a block. The invariant: that of the coedges that are left is
+-- that of all.
 use Rattle.std.proofs.Common.{rules, ◌≡◌, sym, ap, ◌∙◌}
 use Rattle.sheet.specs.Layout.{coedge_parts}
 use Rattle.sheet.specs.Checks.{first_fault, coedge_fault}

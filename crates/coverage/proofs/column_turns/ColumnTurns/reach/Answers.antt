@@ -1,5 +1,5 @@
--- `coverage::column_turns::ColumnTurns::reach` answers a column up to which the turns serve: their own, or one where they
--- were found to be equal.
+-- `coverage::column_turns::ColumnTurns::reach` answers a column up to which the turns serve: their own, or one where
+-- they were found to be equal.
 use mathlib.Core.Path.{◌≡◌}
 use mathlib.Core.Logic.{inl, inr}
 use mathlib.Core.Bool.{true}

@@ -1,5 +1,5 @@
--- `physical::near_segments::Reach::is_near` is `is_near`: where the key of x and y reaches `far` the distance is above the
--- limit, and else it is worked out and held against it.
+-- `physical::near_segments::Reach::is_near` is `is_near`: where the key of x and y reaches `far` the distance is above
+-- the limit, and else it is worked out and held against it.
 use mathlib.Core.Path.{◌≡◌, refl, sym, ap, subst, ◌∙◌}
 use mathlib.Core.Bool.{Bool, true, false}
 use lib.Dec.{T}

@@ -1,5 +1,5 @@
--- `physical::near_segments::Reach::is_ring_near` is `any_near`, from nothing near, of the places that the iterator has to
--- give. The loop's invariant: what is told by the segments that are left, from the place a through those that the
+-- `physical::near_segments::Reach::is_ring_near` is `any_near`, from nothing near, of the places that the iterator has
+-- to give. The loop's invariant: what is told by the segments that are left, from the place a through those that the
 -- iterator has yet to give, is the whole answer, as none before is near. A turn takes one segment, and ends the loop
 -- where it is near: the rest change nothing then. The closing segment comes after the loop.
 use Rattle.physical.proofs.Nearness.{near_none, near_next, near_found, near_last}

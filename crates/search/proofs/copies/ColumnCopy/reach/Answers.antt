@@ -1,5 +1,5 @@
--- `search::copies::ColumnCopy::reach` answers a column up to which the copy serves: its own, or one where it was found to
--- be the same.
+-- `search::copies::ColumnCopy::reach` answers a column up to which the copy serves: its own, or one where it was found
+-- to be the same.
 use Rattle.std.proofs.Common.{sym, ◌∙◌}
 use Rattle.points.proofs.Halving.{column_reached}
 use Rattle.search.proofs.ServingCopies.{served_to}

@@ -1,6 +1,6 @@
 -- `search::leader::Leader::column` is `column` of the specs. The loop's invariant: the column from j on, from the
--- candidate found so far, gives the whole answer; and at most one grid point is counted for each j passed. A turn visits
--- one grid point.
+-- candidate found so far, gives the whole answer; and at most one grid point is counted for each j passed. A turn
+-- visits one grid point.
 use Rattle.std.proofs.Common.{◌≡◌, sym, ap, ◌∙◌, arith}
 use Rattle.search.specs.Chosen.{covered_at, clear_to}
 use Rattle.search.specs.Search.{visit}

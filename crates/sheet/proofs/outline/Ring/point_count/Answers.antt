@@ -1,4 +1,5 @@
--- `sheet::outline::Ring::point_count` adds the coedges' points up. The invariant: with those that are left they are all.
+-- `sheet::outline::Ring::point_count` adds the coedges' points up. The invariant: with those that are left they are
+-- all.
 use Rattle.std.proofs.Common.{◌≡◌, ap, ◌∙◌, arith, length}
 use mathlib.Core.List.{flat_map}
 use Rattle.sheet.specs.Content.{ring_points}
