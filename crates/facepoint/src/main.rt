@@ -45,7 +45,7 @@ fn answer_to(input: &[u8]) -> Answer
 }
 
 // Puts an answer's line at the start of the page, and gives it.
-#[tactic(auto, using(crate::proofs::Lines::line_first), unfolding(crate::specs::Line::line_of))]
+#[tactic(auto, using(text::proofs::Lines::text_first), unfolding(crate::specs::Line::line_of))]
 fn put_line<'a>(answer: Answer, page: &'a mut [u8; LINE]) -> &'a [u8]
     ensures { result.now ≡ line_of answer }
 {

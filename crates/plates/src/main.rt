@@ -8,6 +8,8 @@
 #![tactic(auto)]
 
 ghost use Rattle.std.specs.Prelude.{◌≡◌, ℕ, ◌-◌, ◌<◌, ◌≤◌, length, take, get_or};
+ghost use Rattle.text.specs.Digits.{hexadecimal};
+ghost use Rattle.plates.specs.Answer.{answer_text};
 
 use answers::Answer;
 use cases::{Head, MOST_BYTES, MOST_NUMBERS, MOST_PLACES, RecordError, UNWRITTEN};
@@ -62,14 +64,27 @@ fn before_spaces(name: &[u8]) -> &[u8]
 }
 
 // Puts an answer's numbers at the start of the page, and gives them. (facepoint's `put_line` puts a whole line, with
-// its newline, and promises it.)
-#[tactic(auto, using(crate::proofs::Pages::behind_within))]
-fn put_answer<'a>(answer: Answer, page: &'a mut [u8; 80]) -> &'a [u8] {
+// its newline.)
+#[tactic(auto, using(text::proofs::Lines::text_first), unfolding(crate::specs::Answer::answer_text))]
+fn put_answer<'a>(answer: Answer, page: &'a mut [u8; 80]) -> &'a [u8]
+    ensures text { result.now ≡ answer_text answer }
+    ensures bound { length result.now ≤ 80 }
+{
     let n = match answer {
         Ok(v) => text::put_point(v, 0, page),
         Err(refusal) => text::put_decimal(u32::from(refusal), 0, page),
     };
     &page[..n]
+}
+
+// The sixteen digits of a sum.
+#[tactic(auto, using(text::proofs::Lines::sixteen_digits))]
+fn sum_text(sum: u64) -> [u8; 16]
+    ensures { result ≡ hexadecimal sum }
+{
+    let mut page = [0u8; 16];
+    text::put_hex(sum, 0, &mut page);
+    page
 }
 
 // Writes a plate's line; `sum` is that of the chart's list.
@@ -79,7 +94,8 @@ fn print_line(rt: &impl Print, name: &[u8], answer: Answer, sum: Option<u64>) ->
     rt.write_all(b": ")?;
     rt.write_all(put_answer(answer, &mut page))?;
     if let Some(sum) = sum {
-        print!(rt; " {sum:016X}")?;
+        rt.write_all(b" ")?;
+        rt.write_all(&sum_text(sum))?;
     }
     rt.write_all(b"\n")
 }

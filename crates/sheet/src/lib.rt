@@ -20,5 +20,6 @@ pub use fields::{
 };
 pub use kind::Kind;
 pub use outline::{Coedge, CoedgePoints, Coedges, Outline, Ring, rings};
+pub use parts::block_size;
 pub use point::{ORIGIN, Point};
 pub use sense::Sense;

@@ -66,7 +66,7 @@ pub(crate) fn coedge_parts(version: u8, block: &[u8]) -> CoedgeParts<'_>
 }
 
 // The size of the ring block that the bytes begin with.
-fn block_size(version: u8, s: &[u8]) -> usize
+pub fn block_size(version: u8, s: &[u8]) -> usize
     ensures { result ≡ block_size version s.now }
 {
     let mut size = BLOCK_HEAD;

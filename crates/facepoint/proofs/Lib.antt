@@ -1,2 +1,0 @@
--- Laws about the line and the answer.
-pub mod Lines

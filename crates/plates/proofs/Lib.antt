@@ -1,2 +1,0 @@
--- A law about pages.
-pub mod Pages

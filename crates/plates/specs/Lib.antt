@@ -1,0 +1,2 @@
+-- What the contracts of `plates` cite.
+pub mod Answer
