@@ -3,7 +3,7 @@
 -- result numbers are 0". A call after the picker has its values first, and the rest is 0 (docs/DECISIONS.md); a yes is
 -- 1, a no 0.
 -- No refusal has the number 0, so the numbers tell an answer of zeros from a refusal (proofs/Papers.antt).
-use Rattle.std.specs.Prelude.{Bool, cond, Float, Result, Ok, Err}
+use Rattle.std.specs.Prelude.{Bool, cond, ℕ, Float, Result, Ok, Err}
 use Rattle.leaves.specs.Constants.{plus_zero, one}
 use Rattle.space.specs.declared.vectors.Place.{Place}
 use Rattle.answers.specs.Outcome.{Numbers, refused, number_of}
@@ -13,11 +13,14 @@ use Rattle.answers.specs.declared.outcomes.Parameter.{Parameter}
 use Rattle.answers.specs.declared.outcomes.Direction.{Direction}
 use Rattle.answers.specs.declared.outcomes.Middle.{Middle}
 
--- of an outcome, by the numbers of what is answered
-unfoldable pub paper_by : {A : Type 0} → (A → Numbers) → Result A Refusal → Numbers
-unfolding number_of
-paper_by numbers (Ok x) = numbers x
-paper_by numbers (Err r) = refused (number_of r)
+-- of an outcome, by the numbers of what is answered and by what numbers a refusal
+unfoldable pub told_by : {A E : Type 0} → (A → Numbers) → (E → ℕ) → Result A E → Numbers
+told_by numbers number (Ok x) = numbers x
+told_by numbers number (Err e) = refused (number e)
+
+-- of a call's outcome
+abbrev pub paper_by : {A : Type 0} → (A → Numbers) → Result A Refusal → Numbers
+paper_by numbers outcome = told_by numbers number_of outcome
 
 -- ---- chart and picks
 

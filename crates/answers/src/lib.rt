@@ -9,5 +9,5 @@ mod result;
 
 pub use numbers::{ARGUMENT_LIMIT, any_number_beyond, is_beyond, is_missing, is_place_beyond};
 pub use outcomes::{Answer, Direction, IntoValues, Middle, Parameter, Values};
-pub use refusal::Refusal;
+pub use refusal::{Numbered, Refusal};
 pub use result::{RESULT_LENGTH, put};

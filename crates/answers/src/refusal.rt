@@ -1,5 +1,5 @@
 // The refusals of document 01's tables, in the order of their numbers.
-ghost use Rattle.std.specs.Prelude.{◌≡◌};
+ghost use Rattle.std.specs.Prelude.{◌≡◌, ℕ};
 ghost use Rattle.answers.specs.Outcome.{number_of};
 
 #[derive(Clone, Copy, Debug, PartialEq, Eq)]
@@ -66,5 +66,30 @@ impl From<Refusal> for u32 {
             Refusal::MiddleUnclear => 23,
             Refusal::NotFinite => 24,
         }
+    }
+}
+
+// What has a number as a refusal has one.
+pub trait Numbered: Copy {
+    ghost number: { Self → ℕ };
+
+    fn number(self) -> u32
+        ensures { result ≡ number self };
+}
+
+impl Numbered for Refusal {
+    ghost number = { number_of };
+
+    fn number(self) -> u32 {
+        u32::from(self)
+    }
+}
+
+// A number by itself: of a refusal that another has numbered.
+impl Numbered for u32 {
+    ghost number = { λ n. n };
+
+    fn number(self) -> u32 {
+        self
     }
 }

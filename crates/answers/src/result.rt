@@ -1,19 +1,19 @@
 // The list of five numbers in which a call's result stands over the C convention.
 ghost use Rattle.std.specs.Prelude.{◌≡◌};
-ghost use Rattle.answers.specs.Answers.{paper_by};
+ghost use Rattle.answers.specs.Answers.{told_by};
 ghost use Rattle.answers.specs.Returned.{returned, returned_of};
 
 use crate::outcomes::IntoValues;
-use crate::refusal::Refusal;
+use crate::refusal::Numbered;
 
 // x, y, z, clearance, count.
 pub const RESULT_LENGTH: usize = 5;
 
 // Puts an answer's five numbers into the list, zeros beside a refusal, and gives its status, a number, since C reads
 // it. A list of another length stays as it is, and the status is 1.
-#[tactic(auto, unfolding(crate::specs::Returned::returned_of, crate::specs::Returned::five, crate::specs::Answers::paper_by))]
-pub fn put<T: IntoValues>(answer: Result<T, Refusal>, list: &mut [f64]) -> u32
-    ensures { returned result list.new ≡ returned_of (paper_by T.numbers answer) list.old }
+#[tactic(auto, unfolding(crate::specs::Returned::returned_of, crate::specs::Returned::five, crate::specs::Answers::told_by))]
+pub fn put<T: IntoValues, E: Numbered>(answer: Result<T, E>, list: &mut [f64]) -> u32
+    ensures { returned result list.new ≡ returned_of (told_by T.numbers E.number answer) list.old }
 {
     if list.len() != RESULT_LENGTH {
         return 1;
@@ -26,7 +26,7 @@ pub fn put<T: IntoValues>(answer: Result<T, Refusal>, list: &mut [f64]) -> u32
         }
         Err(refusal) => {
             list.fill(0.0);
-            u32::from(refusal)
+            refusal.number()
         }
     }
 }
