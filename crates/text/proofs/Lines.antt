@@ -3,7 +3,7 @@ use Rattle.std.proofs.Common.{◌≡◌, ℕ, zero, suc, ◌^◌, ◌<◌, ◌�
 use Rattle.std.proofs.lemmas.Grind.{common_steps}
 use Rattle.std.specs.Float.{Float}
 use Rattle.buffer.specs.Page.{behind, laid}
-use Rattle.buffer.proofs.Pages.{put_first}
+use Rattle.buffer.proofs.Pages.{put_first, put_within}
 use Rattle.text.specs.Digits.{digits, hexadecimal}
 use Rattle.text.specs.Line.{number, point_text, point_line, refusal_line}
 use Rattle.text.proofs.Tens.{ten_digits, zero_is}
@@ -38,7 +38,7 @@ module _ (bytes page : List ℕ) (h : length bytes ≤ length page) where
   written_first k = (put_first bytes page (behind 0 bytes page) (laid 0 bytes page) h k refl refl).1
 
   pub written_within : length (laid 0 bytes page) ≡ length page → behind 0 bytes page ≤ length (laid 0 bytes page)
-  written_within k = (put_first bytes page (behind 0 bytes page) (laid 0 bytes page) h k refl refl).0.0
+  written_within k = put_within 0 bytes page (behind 0 bytes page) (laid 0 bytes page) (omega arith) k refl
 
 -- sixteen digits are a page of sixteen
 pub sixteen_digits : (n : ℕ) (page : List ℕ) → length page ≡ 16 → laid 0 (hexadecimal n) page ≡ hexadecimal n
