@@ -4,13 +4,14 @@
 // said on standard error, and the program then ends with status 1.
 #![tactic(auto)]
 
-ghost use Rattle.std.specs.Prelude.{◌≡◌};
+ghost use Rattle.std.specs.Prelude.{◌≡◌, ◌<◌, IfOk, length, take};
+ghost use Rattle.std.specs.Io.{ReadsAtMost};
+ghost use Rattle.std.specs.Io.KnownBytes.{Consumes, IsAtEnd};
 ghost use Rattle.answers.specs.Answers.{paper};
 ghost use Rattle.facepoint.specs.Answer.{answer_to};
 ghost use Rattle.facepoint.specs.Line.{line_of};
 
 use answers::{Answer, Refusal};
-use cases::read_full;
 use std::io::{self, Read};
 use std::process::ExitCode;
 use thiserror::Error;
@@ -31,6 +32,24 @@ enum Failure {
     Input(io::Error),
     #[error("standard output: {0}")]
     Output(io::Error),
+}
+
+// Reads until the buffer is full or the file ends. Answers how many bytes it put at the buffer's start.
+#[tactic(auto, using(cases::proofs::Buffers::read_more))]
+fn read_full<R: Read>(file: &mut R, buffer: &mut [u8]) -> io::Result<usize>
+    ensures bound { ReadsAtMost result buffer.new }
+    ensures bytes { IfOk result (λ n. Consumes (R.remaining file.old) (R.remaining file.new) (take n buffer.new)) }
+    ensures end { IfOk result (λ n. n < length buffer.new → IsAtEnd (R.remaining file.new)) }
+{
+    let mut n = 0;
+    // No `for`: a turn goes on by as many bytes as the file gave, and it ends where the file gives none.
+    while n < buffer.len() {
+        match file.read(&mut buffer[n..])? {
+            0 => break,
+            more => n += more,
+        }
+    }
+    Ok(n)
 }
 
 // The plane pick of the input, or 1 where it is too long.

@@ -11,6 +11,8 @@ ghost use Rattle.std.specs.Prelude.{◌≡◌, ℕ, ◌-◌, ◌<◌, ◌≤◌,
 ghost use Rattle.text.specs.Digits.{hexadecimal};
 ghost use Rattle.plates.specs.Answer.{answer_text};
 
+mod reading;
+
 use answers::Answer;
 use cases::{Head, MOST_BYTES, MOST_NUMBERS, MOST_PLACES, RecordError, UNWRITTEN};
 use chart::Phase;
@@ -103,14 +105,14 @@ fn print_line(rt: &impl Print, name: &[u8], answer: Answer, sum: Option<u64>) ->
 // The next plate of a file; none where the file has ended.
 fn next_plate<R: Read>(file: &mut R) -> Result<Option<Plate>, RecordError> {
     let mut name = [0u8; NAME_SIZE];
-    match cases::read_full(file, &mut name)? {
+    match reading::read_full(file, &mut name)? {
         0 => return Ok(None),
         NAME_SIZE => {}
         _ => return Err(RecordError::Broken),
     }
     let mut call = [0u8; 4];
-    cases::read_whole(file, &mut call)?;
-    let head = cases::read_head(file)?.ok_or(RecordError::Broken)?;
+    reading::read_whole(file, &mut call)?;
+    let head = reading::read_head(file)?.ok_or(RecordError::Broken)?;
     Ok(Some(Plate {
         name,
         call: u32::from_be_bytes(call),
@@ -128,7 +130,7 @@ fn run_plate<R: Read>(rt: &impl Print, file: &mut R, plate: Plate) -> Result<(),
     let phase = Phase::from(head.phase);
     let sheet = &mut sheet[..head.bytes];
     let list = &mut list[..head.places];
-    cases::read_whole(file, sheet)?;
+    reading::read_whole(file, sheet)?;
     let (answer, sum) = match Call::try_from(plate.call)? {
         Call::Chart => {
             cases::fill(list, UNWRITTEN);
@@ -137,7 +139,7 @@ fn run_plate<R: Read>(rt: &impl Print, file: &mut R, plate: Plate) -> Result<(),
         }
         Call::ImagePick => {
             let numbers = &mut numbers[..8 * head.places];
-            cases::read_whole(file, numbers)?;
+            reading::read_whole(file, numbers)?;
             cases::load(list, numbers);
             (picker::image_pick(sheet, phase, list), None)
         }

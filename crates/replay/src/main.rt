@@ -22,6 +22,8 @@
 ghost use Rattle.std.specs.Prelude.{◌≡◌, ◌+◌, ◌<◌, ◌≤◌};
 ghost use Rattle.replay.specs.Recorded.{recorded};
 
+mod reading;
+
 use answers::{Answer, IntoValues, Refusal, Values};
 use cases::{
     Head, MOST_BYTES, MOST_NUMBERS, MOST_PLACES, RecordError, UNWRITTEN, is_shown, u32_at, u64_at,
@@ -123,7 +125,7 @@ fn run_record<F: Fn(&[u8], u32, &mut [f64], &[u8]) -> Result<Left, RecordError>,
 ) -> Result<Option<Outcome>, RecordError>
     requires { F.IsAlwaysCallable call }
 {
-    let Some(head) = cases::read_head(file)? else {
+    let Some(head) = reading::read_head(file)? else {
         return Ok(None);
     };
     let Head {
@@ -137,9 +139,9 @@ fn run_record<F: Fn(&[u8], u32, &mut [f64], &[u8]) -> Result<Left, RecordError>,
     let mut list = [0.0f64; MOST_PLACES];
     let sheet = &mut sheet[..bytes];
     let numbers = &mut numbers[..8 * places];
-    cases::read_whole(file, sheet)?;
-    cases::read_whole(file, &mut answer)?;
-    cases::read_whole(file, numbers)?;
+    reading::read_whole(file, sheet)?;
+    reading::read_whole(file, &mut answer)?;
+    reading::read_whole(file, numbers)?;
     let left = call(sheet, phase, &mut list[..places], numbers)?;
     Ok(Some(left.held_against(&answer)))
 }

@@ -6,11 +6,12 @@
 // That the constants of `leaves` have their bits is proved, and tried when the program starts.
 #![tactic(auto)]
 
-ghost use Rattle.std.specs.Prelude.{◌≡◌, ◌<◌, ◌≤◌, ◌==◌, ◌↔◌, IsTrue, to_bits};
+ghost use Rattle.std.specs.Prelude.{◌≡◌, ◌<◌, ◌≤◌, ◌==◌, ◌↔◌, IfOk, IsTrue, length, take, to_bits};
 ghost use Rattle.std.specs.Float.{binary64};
+ghost use Rattle.std.specs.Io.{ReadsAtMost};
+ghost use Rattle.std.specs.Io.KnownBytes.{Consumes, IsAtEnd};
 ghost use Rattle.std.specs.List.{list_all};
 
-use cases::read_full;
 use leaves::constants;
 use std::fs;
 use std::io::{self, Read};
@@ -52,6 +53,24 @@ fn is_same(x: f64, y: f64) -> bool
     ensures { IsTrue result ↔ (x ≡ y) }
 {
     f64_to_bits_with_nan(x) == f64_to_bits_with_nan(y)
+}
+
+// Reads until the buffer is full or the file ends. Answers how many bytes it put at the buffer's start.
+#[tactic(auto, using(cases::proofs::Buffers::read_more))]
+fn read_full<R: Read>(file: &mut R, buffer: &mut [u8]) -> io::Result<usize>
+    ensures bound { ReadsAtMost result buffer.new }
+    ensures bytes { IfOk result (λ n. Consumes (R.remaining file.old) (R.remaining file.new) (take n buffer.new)) }
+    ensures end { IfOk result (λ n. n < length buffer.new → IsAtEnd (R.remaining file.new)) }
+{
+    let mut n = 0;
+    // No `for`: a turn goes on by as many bytes as the file gave, and it ends where the file gives none.
+    while n < buffer.len() {
+        match file.read(&mut buffer[n..])? {
+            0 => break,
+            more => n += more,
+        }
+    }
+    Ok(n)
 }
 
 // Reads a line, and says whether the answer for its argument is its answer; of a file that has ended, nothing. Here and

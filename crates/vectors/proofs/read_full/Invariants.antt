@@ -1,7 +1,7 @@
 -- the first n bytes of the buffer are what the file gave, and the measure is the room that is left
 use Rattle.std.proofs.Common.{◌-◌, ◌≤◌, length, take}
 use Rattle.std.specs.Io.KnownBytes.{Consumes}
-use Rattle.cases.proofs.reading.read_full.Given as goal
+use Rattle.vectors.proofs.read_full.Given as goal
 
 abbrev pub invariant-loop-n : goal.invariant-loop-n
 invariant-loop-n g l = record {
