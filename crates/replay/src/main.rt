@@ -117,33 +117,41 @@ impl Left {
     }
 }
 
-// Reads a record and makes its call; of a file that has ended, nothing. Here and below, that the closure which is
-// handed over may be called is required. (A trait's function asks nothing, but each of the nine calls would be a type.)
+// Reads what stands behind a record's head, and makes its call. Here and below, that the closure which is handed over
+// may be called is required. (A trait's function asks nothing, but each of the nine calls would be a type. The lists
+// stand in a function of their own: beside the head's reading they were cleared twice.)
+fn run_call<F: Fn(&[u8], u32, &mut [f64], &[u8]) -> Result<Left, RecordError>, R: Read>(
+    file: &mut R,
+    head: Head,
+    call: F,
+) -> Result<Outcome, RecordError>
+    requires { F.IsAlwaysCallable call }
+{
+    let mut sheet = [0u8; MOST_BYTES];
+    let mut answer = [0u8; 40];
+    let mut numbers = [0u8; MOST_NUMBERS];
+    let mut list = [0.0f64; MOST_PLACES];
+    let sheet = &mut sheet[..head.bytes];
+    let list = &mut list[..head.places];
+    let numbers = &mut numbers[..8 * head.places];
+    reading::read_whole(file, sheet)?;
+    reading::read_whole(file, &mut answer)?;
+    reading::read_whole(file, numbers)?;
+    let left = call(sheet, head.phase, list, numbers)?;
+    Ok(left.held_against(&answer))
+}
+
+// Reads a record and makes its call; of a file that has ended, nothing.
 fn run_record<F: Fn(&[u8], u32, &mut [f64], &[u8]) -> Result<Left, RecordError>, R: Read>(
     file: &mut R,
     call: F,
 ) -> Result<Option<Outcome>, RecordError>
     requires { F.IsAlwaysCallable call }
 {
-    let Some(head) = reading::read_head(file)? else {
-        return Ok(None);
-    };
-    let Head {
-        bytes,
-        phase,
-        places,
-    } = head;
-    let mut sheet = [0u8; MOST_BYTES];
-    let mut answer = [0u8; 40];
-    let mut numbers = [0u8; MOST_NUMBERS];
-    let mut list = [0.0f64; MOST_PLACES];
-    let sheet = &mut sheet[..bytes];
-    let numbers = &mut numbers[..8 * places];
-    reading::read_whole(file, sheet)?;
-    reading::read_whole(file, &mut answer)?;
-    reading::read_whole(file, numbers)?;
-    let left = call(sheet, phase, &mut list[..places], numbers)?;
-    Ok(Some(left.held_against(&answer)))
+    match reading::read_head(file)? {
+        Some(head) => Ok(Some(run_call(file, head, call)?)),
+        None => Ok(None),
+    }
 }
 
 fn run_records<F: Fn(&[u8], u32, &mut [f64], &[u8]) -> Result<Left, RecordError>, R: Read>(
