@@ -66,7 +66,6 @@ impl Extent {
 }
 
 // The least and the greatest of the list; infinities of none.
-#[tactic(auto, using(crate::proofs::Extremes::extremes))]
 fn extent_of(list: &[f64]) -> Extent
     ensures { (result.least ≡ least list.now) × (result.greatest ≡ greatest list.now) }
 {
