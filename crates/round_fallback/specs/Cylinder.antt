@@ -5,6 +5,7 @@ use Rattle.std.specs.Prelude.{Bool, not, cond, ◌&&◌, ◌||◌, ℕ, eqb, ltb
 use mathlib.Core.List.{List, [], ◌∷◌, map, foldl}
 use Rattle.std.specs.Float.{binary64}
 use Rattle.std.specs.Float.Ieee.{add, sub, div, neg, lt, le, eq}
+use Rattle.leaves.specs.Bounds.{smaller_of, larger_of}
 use Rattle.leaves.specs.Constants.{plus_zero, pi, tau, micro, one}
 use Rattle.leaves.specs.Wrap.{rem_tau}
 use Rattle.answers.specs.Outcome.{check, first, Numbers, settled}
@@ -13,12 +14,17 @@ use Rattle.answers.specs.Lists.{any_of}
 use Rattle.points.specs.Bounds.{least, greatest}
 use Rattle.points.specs.Segments.{two, middle, Between, segments}
 use Rattle.answers.specs.Answers.{valued}
+use Rattle.round_fallback.specs.declared.cylinder.Extent.{Extent}
 use Rattle.round_fallback.specs.declared.cylinder.Stretch.{Stretch}
 
 -- ---- 16 and 22
 
 unfoldable pub round_wrong : List Float → List Float → Bool
 round_wrong heights angles = any_of (beyond argument_limit) heights || any_of (beyond argument_limit) angles
+
+-- the least and the greatest of one number more
+unfoldable pub with_number : Extent → Float → Extent
+with_number e x = record { least = smaller_of e.least x; greatest = larger_of e.greatest x }
 
 abbrev pub most_of_either : ℕ
 most_of_either = 256

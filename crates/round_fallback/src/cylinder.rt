@@ -1,16 +1,21 @@
 // The round fallback of faces.rs, up to the middle angle and height.
 ghost use Rattle.std.specs.Prelude.{◌≡◌, ◌≤◌, map, length, take};
 ghost use Rattle.std.specs.List.{AllByRecursion};
+ghost use Rattle.std.specs.Float.{binary64};
+ghost use Rattle.std.specs.Float.Ieee.{sub, div};
+ghost use Rattle.std.specs.Ordering.{ordering_then, nan_last_cmp};
+ghost use Rattle.leaves.specs.Constants.{one};
 ghost use Rattle.leaves.specs.Wrap.{rem_tau};
 ghost use Rattle.points.specs.Bounds.{least, greatest};
+ghost use Rattle.points.specs.Segments.{middle as middle_of};
 ghost use Rattle.answers.specs.Answers.{middle_paper};
 ghost use Rattle.round_fallback.specs.Sorted.{Numeric};
-ghost use Rattle.round_fallback.specs.Cylinder.{round_wrong, heights_wrong, sorted_of, is_near, kept_of, corner_angles, gap_of, wider as wider_of, widest_of, opposite as opposite_of, middle_height, middle_among, cylinder_point_of};
+ghost use Rattle.round_fallback.specs.Cylinder.{round_wrong, heights_wrong, sorted_of, is_near, kept_of, corner_angles, gap_of, wider as wider_of, widest_of, with_number, opposite as opposite_of, middle_height, middle_among, cylinder_point_of};
 
 use answers::{ARGUMENT_LIMIT, Middle, Refusal, any_number_beyond};
 use leaves::constants::{MICRO, PI, TAU};
 use points::{Between, segments};
-use std::cmp::OrderedFloat;
+use std::cmp::{Ordering, OrderedFloat};
 
 // As document 01 limits heights and angles.
 const MOST_OF_EITHER: usize = 256;
@@ -22,6 +27,13 @@ pub struct Stretch {
     pub from: f64,
 }
 
+// The least and the greatest of numbers.
+#[derive(Clone, Copy, Debug, PartialEq)]
+pub struct Extent {
+    pub least: f64,
+    pub greatest: f64,
+}
+
 // 16: a number of either list is beyond 2^20.
 #[tactic(auto, unfolding(crate::specs::Cylinder::round_wrong))]
 fn round_wrong(heights: &[f64], angles: &[f64]) -> bool
@@ -30,22 +42,40 @@ fn round_wrong(heights: &[f64], angles: &[f64]) -> bool
     any_number_beyond(ARGUMENT_LIMIT, heights) || any_number_beyond(ARGUMENT_LIMIT, angles)
 }
 
-// The least of the list; infinity of none.
-#[tactic(auto, using(crate::proofs::Extremes::extremes))]
-fn least(list: &[f64]) -> f64
-    ensures { result ≡ least list.now }
-{
-    list.iter()
-        .fold(f64::INFINITY, |found, x| leaves::smaller_of(found, *x))
+impl Extent {
+    // The extent of one number more.
+    #[tactic(auto, unfolding(crate::specs::Cylinder::with_number))]
+    fn with_number(self, x: f64) -> Extent
+        ensures { result ≡ with_number self x }
+    {
+        Extent {
+            least: leaves::smaller_of(self.least, x),
+            greatest: leaves::larger_of(self.greatest, x),
+        }
+    }
+
+    fn spread(self) -> f64
+        ensures { result ≡ sub binary64 self.greatest self.least }
+    {
+        self.greatest - self.least
+    }
+
+    fn middle(self) -> f64
+        ensures { result ≡ middle_of self.least self.greatest }
+    {
+        (self.least + self.greatest) / 2.0
+    }
 }
 
-// The greatest of the list; minus infinity of none.
-#[tactic(auto, using(crate::proofs::Extremes::extremes))]
-fn greatest(list: &[f64]) -> f64
-    ensures { result ≡ greatest list.now }
+// The least and the greatest of the list; infinities of none.
+fn extent_of(list: &[f64]) -> Extent
+    ensures { (result.least ≡ least list.now) × (result.greatest ≡ greatest list.now) }
 {
-    list.iter()
-        .fold(f64::NEG_INFINITY, |found, x| leaves::larger_of(found, *x))
+    let none = Extent {
+        least: f64::INFINITY,
+        greatest: f64::NEG_INFINITY,
+    };
+    list.iter().fold(none, |found, x| found.with_number(*x))
 }
 
 // 22: no heights, over 256 of either, or a spread of at most 1e-6.
@@ -56,15 +86,24 @@ fn heights_wrong(heights: &[f64], angles: &[f64]) -> bool
     heights.is_empty()
         || MOST_OF_EITHER < heights.len()
         || MOST_OF_EITHER < angles.len()
-        || greatest(heights) - least(heights) <= MICRO
+        || extent_of(heights).spread() <= MICRO
 }
 
-// The numbers in the total order: that of the numbers, and -0 before +0. One over a zero tells its sign.
+// The order of the numbers, and of one over each where they tie, as zeros do: one over a zero tells its sign.
+fn order(a: f64, b: f64) -> Ordering
+    ensures { result ≡ ordering_then (nan_last_cmp a b) (nan_last_cmp (div binary64 one a) (div binary64 one b)) }
+{
+    OrderedFloat(a)
+        .cmp(&OrderedFloat(b))
+        .then_with(|| OrderedFloat(1.0 / a).cmp(&OrderedFloat(1.0 / b)))
+}
+
+// The numbers in the total order: that of the numbers, and -0 before +0.
 fn sort(list: &mut [f64])
     requires { AllByRecursion Numeric list.old }
     ensures { list.new ≡ sorted_of list.old }
 {
-    list.sort_unstable_by_key(|x| (OrderedFloat(*x), OrderedFloat(1.0 / *x)));
+    list.sort_unstable_by(|a, b| order(*a, *b));
 }
 
 // Whether two angles are nearer than 1e-6.
@@ -98,12 +137,14 @@ fn keep(sorted: &mut [f64]) -> &[f64]
     &sorted[..count]
 }
 
-// Each of the angles reduced to a turn.
-fn reduce(angles: &mut [f64])
-    ensures { angles.new ≡ map rem_tau angles.old }
+// Each of the angles reduced to a turn, over a list that has room for just the angles. (An index in a zip's place: of
+// what is written through a zip, no clause of it speaks.)
+fn reduce(angles: &[f64], turned: &mut [f64])
+    requires { length turned.old ≡ length angles.now }
+    ensures { turned.new ≡ map rem_tau angles.now }
 {
-    for angle in angles.iter_mut() {
-        *angle = leaves::rem_tau(*angle);
+    for (k, angle) in angles.iter().enumerate() {
+        turned[k] = leaves::rem_tau(*angle);
     }
 }
 
@@ -114,8 +155,7 @@ fn corner_angles<'a>(angles: &[f64], turned: &'a mut [f64]) -> &'a [f64]
     requires numbers { AllByRecursion Numeric (map rem_tau angles.now) }
     ensures { result.now ≡ corner_angles angles.now }
 {
-    turned.copy_from_slice(angles);
-    reduce(turned);
+    reduce(angles, turned);
     sort(turned);
     keep(turned)
 }
@@ -171,7 +211,7 @@ fn widest(angles: &[f64]) -> Stretch
 fn middle_height(heights: &[f64]) -> f64
     ensures { result ≡ middle_height heights.now }
 {
-    (least(heights) + greatest(heights)) / 2.0
+    extent_of(heights).middle()
 }
 
 // The answer of the heights and the corner angles; 23: the middle is unclear.
@@ -180,20 +220,17 @@ fn middle(heights: &[f64], angles: &[f64]) -> Result<Middle, Refusal>
     ensures { middle_paper result ≡ middle_among heights.now angles.now }
 {
     let w = widest(angles);
-    let height = middle_height(heights);
-    if angles.len() == 1 {
-        return Ok(Middle {
-            angle: w.from + PI,
-            height,
-        });
-    }
-    if PI + MICRO < w.gap {
-        return Ok(Middle {
-            angle: w.opposite(),
-            height,
-        });
-    }
-    Err(Refusal::MiddleUnclear)
+    let angle = if angles.len() == 1 {
+        w.from + PI
+    } else if PI + MICRO < w.gap {
+        w.opposite()
+    } else {
+        return Err(Refusal::MiddleUnclear);
+    };
+    Ok(Middle {
+        angle,
+        height: middle_height(heights),
+    })
 }
 
 // The middle angle and height of a round face, from the heights and angles of its corners.

@@ -1,13 +1,16 @@
--- `round_fallback::cylinder::reduce` maps `rem_tau` over the list: one more number in each turn.
-use Rattle.std.proofs.Common.{◌<◌, length, get_or, arith}
-use lib.Ieee.{nan}
-use Rattle.std.proofs.lemmas.Grind.{common_steps}
-use Rattle.std.proofs.lemmas.List.Edits.{map_over_more}
+-- `round_fallback::cylinder::reduce` is `rem_tau` of every angle, over the list.
+use Rattle.std.proofs.Common.{ap, map, arith}
+use Rattle.std.proofs.lemmas.List.{drop_more, drop_all}
 use Rattle.leaves.specs.Wrap.{rem_tau}
+use Rattle.points.proofs.InPlace.{none_written, item_written, all_filled}
 use Rattle.round_fallback.proofs.cylinder.reduce.Goals as goal
 
-pub loop-angle-preserved : goal.loop-angle-preserved
-loop-angle-preserved c =
-    let l = c.loop-angle in
-    let here : l.angle-index < length c.args.angles.now = omega arith in
-    rw c.rem_tau.ensures (map_over_more rem_tau c.args.angles.now l.angles l.angle-index (get_or l.angles l.angle-index nan) here l.invariant (grind (arith, common_steps)))
+pub loop-k-init : goal.loop-k-init
+loop-k-init c = none_written _ _
+
+pub loop-k-preserved : goal.loop-k-preserved
+loop-k-preserved c =
+    item_written c.loop-k.invariant _ _ (rw c.rem_tau.ensures (ap (map rem_tau) (drop_more c.args.angles.now c.loop-k.k _ (omega arith)))) (omega arith)
+
+pub returns : goal.returns
+returns c = all_filled c.loop-k.invariant (ap (map rem_tau) (drop_all c.loop-k.k c.args.angles.now (omega arith))) (omega arith)
