@@ -15,7 +15,7 @@ ghost use Rattle.round_fallback.specs.Cylinder.{round_wrong, heights_wrong, sort
 use answers::{ARGUMENT_LIMIT, Middle, Refusal, any_number_beyond};
 use leaves::constants::{MICRO, PI, TAU};
 use points::{Between, segments};
-use std::cmp::{Ordering, OrderedFloat};
+use std::cmp::{OrderedFloat, Ordering};
 
 // As document 01 limits heights and angles.
 const MOST_OF_EITHER: usize = 256;
