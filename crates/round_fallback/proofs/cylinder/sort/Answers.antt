@@ -1,6 +1,6 @@
 -- `round_fallback::cylinder::sort` is `sorted_of`: by the order of the numbers, and of one over each where they tie, no
 -- other list of the same numbers is in order.
-use Rattle.std.proofs.Common.{rules, arith, ap, is_lt}
+use Rattle.std.proofs.Common.{rules, arith, is_lt}
 use lib.Ieee.{nan}
 use Rattle.std.proofs.lemmas.Fn.{always_returns_same}
 use Rattle.round_fallback.proofs.Preceding.{key_order, key_ranks}
