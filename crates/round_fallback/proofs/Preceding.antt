@@ -7,10 +7,7 @@ use lib.Ieee.{Float, fin, binary64, of_bits, fits, is_nan, lt, eq, le, div}
 use lib.Ieee.Fits.{div-fits}
 use Rattle.std.specs.Prelude.{pos}
 use Rattle.std.specs.Ordering.{ordering_then, nan_last_cmp}
-use Rattle.std.specs.Cmp.{IsStrictWeakOrder, then_total, on_total}
-use Rattle.std.specs.Float.Cmp.{nan_last}
 use Rattle.std.proofs.Common.{is_lt}
-use Rattle.std.proofs.lemmas.List.Sorted.{ranks_by}
 use Rattle.std.specs.declared.cmp.Ordering.{Ordering}
 use Rattle.std.specs.declared.cmp.Ordering.TheVariants.{Less, Equal, Greater}
 use Rattle.leaves.specs.Constants.{plus_zero, one}
@@ -132,9 +129,6 @@ level_same x y hx hy p q = by (eq x plus_zero) refl
 
 abbrev pub key_order : Float → Float → Ordering
 key_order a b = ordering_then (nan_last_cmp a b) (nan_last_cmp (div binary64 one a) (div binary64 one b))
-
-pub key_ranks : IsStrictWeakOrder (λ a b. is_lt (key_order a b))
-key_ranks = ranks_by (then_total nan_last (on_total (div binary64 one) nan_last)) (λ x. x)
 
 pub not_less : (a b : Float) → Numeric a → Numeric b → is_lt (key_order b a) ≡ false → precedes b a ≡ false
 unfolding precedes

@@ -22,7 +22,7 @@ use Rattle.round_fallback.specs.declared.cylinder.Stretch.{Stretch}
 unfoldable pub round_wrong : List Float → List Float → Bool
 round_wrong heights angles = any_of (beyond argument_limit) heights || any_of (beyond argument_limit) angles
 
--- the least and the greatest of one number more
+-- the least and the greatest of one number more, as the code finds both in one walk
 unfoldable pub with_number : Extent → Float → Extent
 with_number e x = record { least = smaller_of e.least x; greatest = larger_of e.greatest x }
 

@@ -2,9 +2,7 @@
 ghost use Rattle.std.specs.Prelude.{◌≡◌, ◌≤◌, map, length, take};
 ghost use Rattle.std.specs.List.{AllByRecursion};
 ghost use Rattle.std.specs.Float.{binary64};
-ghost use Rattle.std.specs.Float.Ieee.{sub, div};
-ghost use Rattle.std.specs.Ordering.{ordering_then, nan_last_cmp};
-ghost use Rattle.leaves.specs.Constants.{one};
+ghost use Rattle.std.specs.Float.Ieee.{sub};
 ghost use Rattle.leaves.specs.Wrap.{rem_tau};
 ghost use Rattle.points.specs.Bounds.{least, greatest};
 ghost use Rattle.points.specs.Segments.{middle as middle_of};
@@ -15,7 +13,7 @@ ghost use Rattle.round_fallback.specs.Cylinder.{round_wrong, heights_wrong, sort
 use answers::{ARGUMENT_LIMIT, Middle, Refusal, any_number_beyond};
 use leaves::constants::{MICRO, PI, TAU};
 use points::{Between, segments};
-use std::cmp::{OrderedFloat, Ordering};
+use std::cmp::OrderedFloat;
 
 // As document 01 limits heights and angles.
 const MOST_OF_EITHER: usize = 256;
@@ -89,21 +87,12 @@ fn heights_wrong(heights: &[f64], angles: &[f64]) -> bool
         || extent_of(heights).spread() <= MICRO
 }
 
-// The order of the numbers, and of one over each where they tie, as zeros do: one over a zero tells its sign.
-fn order(a: f64, b: f64) -> Ordering
-    ensures { result ≡ ordering_then (nan_last_cmp a b) (nan_last_cmp (div binary64 one a) (div binary64 one b)) }
-{
-    OrderedFloat(a)
-        .cmp(&OrderedFloat(b))
-        .then_with(|| OrderedFloat(1.0 / a).cmp(&OrderedFloat(1.0 / b)))
-}
-
-// The numbers in the total order: that of the numbers, and -0 before +0.
+// The numbers in the total order: that of the numbers, and -0 before +0. One over a zero tells its sign.
 fn sort(list: &mut [f64])
     requires { AllByRecursion Numeric list.old }
     ensures { list.new ≡ sorted_of list.old }
 {
-    list.sort_unstable_by(|a, b| order(*a, *b));
+    list.sort_unstable_by_key(|x| (OrderedFloat(*x), OrderedFloat(1.0 / *x)));
 }
 
 // Whether two angles are nearer than 1e-6.

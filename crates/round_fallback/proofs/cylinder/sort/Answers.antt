@@ -1,14 +1,14 @@
--- `round_fallback::cylinder::sort` is `sorted_of`: by the order of the numbers, and of one over each where they tie, no
--- other list of the same numbers is in order.
-use Rattle.std.proofs.Common.{rules, arith, ap, is_lt}
-use lib.Ieee.{nan}
+-- `round_fallback::cylinder::sort` is `sorted_of`: by the key, which is the number and one over it, no other list of
+-- the same numbers is in order.
+use Rattle.std.proofs.Common.{rules, arith}
+use lib.Ieee.{nan, binary64, div}
 use Rattle.std.proofs.lemmas.Fn.{always_returns_same}
-use Rattle.round_fallback.proofs.Preceding.{key_order, key_ranks}
+use Rattle.leaves.specs.Constants.{one}
 use Rattle.round_fallback.proofs.Sorting.{sorted_alone}
 use Rattle.round_fallback.proofs.cylinder.sort.Goals as goal
 
 pub returns : goal.returns
 returns c =
-    let s = c.sort_unstable_by in
+    let s = c.sort_unstable_by_key in
     sorted_alone c.args.list.now s.new.self c.requires s.ensures.permutation
-    (λ k lt. s.ensures.sorted (λ a b. is_lt (key_order a b)) key_ranks (always_returns_same _ _ _ (λ a r f' k. (search rules, search rules))) k nan (omega arith) lt)
+    (λ k lt. s.ensures.sorted (λ x. (record { 0 = x }, record { 0 = div binary64 one x })) (always_returns_same _ _ _ (λ a r f' k. (search rules, search rules))) k nan (omega arith) lt)
