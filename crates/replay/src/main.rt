@@ -131,13 +131,18 @@ fn run_call<F: Fn(&[u8], u32, &mut [f64], &[u8]) -> Result<Left, RecordError>, R
     let mut answer = [0u8; 40];
     let mut numbers = [0u8; MOST_NUMBERS];
     let mut list = [0.0f64; MOST_PLACES];
-    let sheet = &mut sheet[..head.bytes];
-    let list = &mut list[..head.places];
-    let numbers = &mut numbers[..8 * head.places];
+    let Head {
+        bytes,
+        phase,
+        places,
+    } = head;
+    let sheet = &mut sheet[..bytes];
+    let list = &mut list[..places];
+    let numbers = &mut numbers[..8 * places];
     reading::read_whole(file, sheet)?;
     reading::read_whole(file, &mut answer)?;
     reading::read_whole(file, numbers)?;
-    let left = call(sheet, head.phase, list, numbers)?;
+    let left = call(sheet, phase, list, numbers)?;
     Ok(left.held_against(&answer))
 }
 
