@@ -52,9 +52,8 @@ fn chosen_from(f: Frame, sense: Sense, normalised: SheetRings, list: &mut [Segme
     let rings = normalised.rings;
     let mut covered = [false; GRID_POINTS];
     coverage::cover(f, sense, rings, &mut covered);
-    let period = period_of(f);
-    let n = lay_rings(period, rings, list);
-    search::choose(period, &list[..n], &covered)
+    let n = lay_rings(period_of(f), rings, list);
+    search::choose(period_of(f), &list[..n], &covered)
 }
 
 // The grid point chosen in a frame. `normal` has room for just the normalised points, `list` for their segments. It is

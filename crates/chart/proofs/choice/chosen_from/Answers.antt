@@ -17,8 +17,7 @@ returns c =
     let x = c.args in
     let r = c.lay_rings-n in
     let marks = c.cover.new.covered in
-    let period = c.period_of-period.ensures in
     c.choose.ensures
-    ∙ ap (λ (p : Option Float). chosen_among p (take 2176 (take r.result r.new.list)) marks) period
-    ∙ chosen_from x.f x.sense (rings_in x.normalised.rings) r.new.list r.result 2176 marks (omega (arith, r.ensures.0, c.requires.1)) (r.ensures.1 ∙ ap (λ (p : Option Float). laid_rings p (rings_in x.normalised.rings)) period)
+    ∙ ap (λ (p : Option Float). chosen_among p (take 2176 (take r.result r.new.list)) marks) c.period_of-2.ensures
+    ∙ chosen_from x.f x.sense (rings_in x.normalised.rings) r.new.list r.result 2176 marks (omega (arith, r.ensures.0, c.requires.1)) (r.ensures.1 ∙ ap (λ (p : Option Float). laid_rings p (rings_in x.normalised.rings)) c.period_of.ensures)
     (marked x.f x.sense x.normalised.rings.ends.now x.normalised.rings.points.now _ _ x.normalised.ends_bound x.normalised.points_bound refl c.cover.ensures)
