@@ -10,5 +10,8 @@ mod record;
 
 pub use big_endian::{u32_at, u64_at};
 pub use list::{UNWRITTEN, check_sum, fill, is_shown, load, wrong_places};
-pub use reading::is_run;
+pub use reading::{is_run, read_full, read_head, read_whole};
 pub use record::{HEAD_SIZE, Head, MOST_BYTES, MOST_NUMBERS, MOST_PLACES, RecordError, head_of};
+
+#[cfg(test)]
+mod tests;
