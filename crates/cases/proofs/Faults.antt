@@ -1,14 +1,14 @@
 -- Laws about a failed read whose failure is passed on, wrapped in another.
 use Rattle.std.proofs.Common.{◌≡◌, ℕ, ◌<◌, ◌≤◌, List, length, Option, Some, None, Result, Ok, Err, MatchResult, ap, ◌∙◌, subst, rules}
 use Rattle.std.specs.Result.{IsErrAnd}
+use Rattle.std.proofs.lemmas.Result.{err_from_is_err_and}
 use Rattle.std.specs.declared.io.Error.{Error}
-use Rattle.cases.specs.Reading.{unless, is_full}
+use Rattle.cases.specs.Reading.{unless, full_or_broken}
 use Rattle.cases.specs.declared.record.RecordError.TheVariants.{Broken}
 use borrow.Author.Tests.{lt-ltb, le-ltb}
 
 err_is : {A E : Type 0} (r : Result A E) (e : E) → IsErrAnd r (λ x. x ≡ e) → r ≡ Err e
-err_is (Ok x) e h = absurd h
-err_is (Err x) e h = ap Err h
+err_is r e h = let f = err_from_is_err_and r h in f.1 ∙ ap Err f.2
 
 -- a read of n bytes, and what its failure was wrapped in
 module _ {E : Type 0} (why : Error → E) (n : ℕ) (read : Result ℕ Error) (wrapped : Result ℕ E) where
@@ -31,10 +31,10 @@ passes why n m (Some e) answer p = search rules
 
 -- ---- a buffer that is to be full
 
-pub falls_short : (n : ℕ) (bytes : List ℕ) → length bytes < n → is_full n bytes ≡ Err Broken
-unfolding is_full
+pub falls_short : (n : ℕ) (bytes : List ℕ) → length bytes < n → full_or_broken n bytes ≡ Err Broken
+unfolding full_or_broken
 falls_short n bytes h = rw (lt-ltb (length bytes) n h)
 
-pub fills : (n : ℕ) (bytes : List ℕ) → n ≤ length bytes → is_full n bytes ≡ Ok tt
-unfolding is_full
+pub fills : (n : ℕ) (bytes : List ℕ) → n ≤ length bytes → full_or_broken n bytes ≡ Ok tt
+unfolding full_or_broken
 fills n bytes h = rw (le-ltb (length bytes) n h)

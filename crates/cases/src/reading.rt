@@ -2,7 +2,8 @@
 ghost use Rattle.std.specs.Prelude.{◌≡◌, ◌<◌, List, ℕ, Ok, IfOk, OnOk, Err, IsErrOf, MatchResult, is_ok, length, take, drop};
 ghost use Rattle.std.specs.Io.{ReadsAtMost};
 ghost use Rattle.std.specs.Io.KnownBytes.{Consumes, IsAtEnd, ReadConsumes};
-ghost use Rattle.cases.specs.Reading.{Gives, Given, unless, filled, is_full};
+ghost use Rattle.buffer.specs.Page.{laid};
+ghost use Rattle.cases.specs.Reading.{Gives, Given, unless, full_or_broken};
 ghost use Rattle.cases.specs.Record.{head_of};
 
 use crate::record::{HEAD_SIZE, Head, RecordError, head_of};
@@ -25,7 +26,8 @@ fn read_part<R: Read>(file: &mut R, part: &mut [u8]) -> io::Result<usize>
     Ok(n)
 }
 
-// Reads until the buffer is full or the file ends. Answers how many bytes it put at the buffer's start.
+// Reads until the buffer is full or the file ends. Answers how many bytes it put at the buffer's start; those behind
+// them stay as they were.
 #[tactic(auto, using(crate::proofs::Buffers::read_more, crate::proofs::Buffers::rest_kept))]
 pub fn read_full<R: Read>(file: &mut R, buffer: &mut [u8]) -> io::Result<usize>
     ensures bound { ReadsAtMost result buffer.new }
@@ -33,7 +35,7 @@ pub fn read_full<R: Read>(file: &mut R, buffer: &mut [u8]) -> io::Result<usize>
     ensures end { IfOk result (λ n. n < length buffer.new → IsAtEnd (R.remaining file.new)) }
     ensures told { (given : Given (length buffer.old) (R.remaining file.old) (R.remaining file.new))
         × (result ≡ unless (λ e. e) given.fault (Ok (length given.bytes)))
-        × (buffer.new ≡ filled given.bytes buffer.old) }
+        × (buffer.new ≡ laid 0 given.bytes buffer.old) }
 {
     let mut n = 0;
     // No `for`: a turn goes on by as many bytes as the file gave, and it ends where the file gives none.
@@ -46,13 +48,13 @@ pub fn read_full<R: Read>(file: &mut R, buffer: &mut [u8]) -> io::Result<usize>
     Ok(n)
 }
 
-// Reads the whole buffer.
+// Reads the whole buffer. Where the file ends before, the record is broken.
 pub fn read_whole<R: Read>(file: &mut R, buffer: &mut [u8]) -> Result<(), RecordError>
     ensures bytes { OnOk result (Consumes (R.remaining file.old) (R.remaining file.new) buffer.new) }
     ensures broken { IsErrOf result RecordError.Broken → IsAtEnd (R.remaining file.new) }
     ensures told { (given : Given (length buffer.old) (R.remaining file.old) (R.remaining file.new))
-        × (result ≡ unless RecordError.Io given.fault (is_full (length buffer.old) given.bytes))
-        × (buffer.new ≡ filled given.bytes buffer.old) }
+        × (result ≡ unless RecordError.Io given.fault (full_or_broken (length buffer.old) given.bytes))
+        × (buffer.new ≡ laid 0 given.bytes buffer.old) }
 {
     let n = read_full(file, buffer).map_err(RecordError::Io)?;
     if n < buffer.len() {

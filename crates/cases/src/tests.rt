@@ -1,4 +1,5 @@
-// The reads, of bytes that are at hand and of a reader that fails.
+// The reads, of bytes that are at hand and of a reader that fails. That a read fails where the file does, and for its
+// reason, no contract can say.
 use crate::{RecordError, read_full, read_head, read_whole};
 use std::io::{self, ErrorKind, Read};
 
@@ -72,8 +73,9 @@ fn what_fails_is_passed_on(rt: HostRuntime) {
     assert_eq!(rt; kind, Some(ErrorKind::TimedOut));
     assert_eq!(rt; buffer, *b"abc\x07");
     file = Failing { left: b"x" };
-    let error = read_whole(&mut file, &mut buffer).err();
-    assert!(rt; matches!(error, Some(RecordError::Io(_))));
+    let whole = read_whole(&mut file, &mut buffer);
+    assert!(rt; matches!(whole, Err(RecordError::Io(e)) if e.kind() == ErrorKind::TimedOut));
     file = Failing { left: b"x" };
-    assert!(rt; matches!(read_head(&mut file), Err(RecordError::Io(_))));
+    let head = read_head(&mut file);
+    assert!(rt; matches!(head, Err(RecordError::Io(e)) if e.kind() == ErrorKind::TimedOut));
 }
